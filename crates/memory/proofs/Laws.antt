@@ -12,7 +12,7 @@ use lib.Seq.{get_or-drop, drop-set-lt, drop-set-add, get_or-set_same, get_or-set
 use borrow.Rule.Slice.PartMut.{put_mid, post_of, same_len_mid, mid_len, take_put, drop_put}
 use borrow.Author.Tests.{eqb-true, eqb-false, eq-eqb, ne_eqb, le-ltb}
 use Rattle.rules.specs.declared.Ninths.{Ninths}
-use Rattle.rules.specs.declared.When.TheVariants.{At}
+use Rattle.std.specs.Prelude.{Some}
 use Rattle.rules.specs.declared.Session.{Session}
 use Rattle.rules.specs.declared.Past.{Past}
 use Rattle.rules.specs.declared.Link.{Link}
@@ -274,10 +274,10 @@ module _ (c : ℕ) (p : Session → Bool) (l : List Session) (a : All (λ s. of 
 
 -- the first start of those in order of start
 pub first-earliest : (l : List Session) (t : Ninths) → Sorted l → 0 < length l → t ≡ (get_or l 0 empty).start
-    → At t ≡ earliest (λ s. s.start) l
-first-earliest l t o h e = ap At e ∙ sym (earliest-start l empty o h)
+    → Some t ≡ earliest (λ s. s.start) l
+first-earliest l t o h e = ap Some e ∙ sym (earliest-start l empty o h)
 
-leading-earliest : (l : List Session) (b : ℕ) → Leading l (length l) b → earliest (λ s. s.end) l ≡ At (get_or l b empty).end
+leading-earliest : (l : List Session) (b : ℕ) → Leading l (length l) b → earliest (λ s. s.end) l ≡ Some (get_or l b empty).end
 leading-earliest [] b v = absurd (omega (arith, v.among))
 leading-earliest (s ∷ l) zero v =
     earliest-first (λ u. u.end) s.end l (each_at (λ u. s.end.0 ≤ u.end.0) empty l (λ j h. v.least (suc j) (omega arith)))
@@ -289,15 +289,15 @@ leading-earliest (s ∷ l) (suc b) v =
       least = λ j h. v.least (suc j) (omega arith);
       first = λ j h. v.first (suc j) (omega arith);
     } in
-    ap (sooner (At s.end)) (leading-earliest l b w) ∙ sooner-second s.end (get_or l b empty).end (v.first 0 (omega arith))
+    ap (sooner (Some s.end)) (leading-earliest l b w) ∙ sooner-second s.end (get_or l b empty).end (v.first 0 (omega arith))
 
 -- the end at the place that `places::least_end` gives
 module _ (l : List Session) (i : ℕ) (h : 0 < length l) (e : i ≡ least_end l) where
   pub least-within : i < length l
   least-within = omega (arith, (least-leads l h).among)
 
-  pub least-earliest : (t : Ninths) → t ≡ (get_or l i empty).end → At t ≡ earliest (λ s. s.end) l
-  least-earliest t k = ap At (k ∙ ap (λ (j : ℕ). (get_or l j empty).end) e) ∙ sym (leading-earliest l (least_end l) (least-leads l h))
+  pub least-earliest : (t : Ninths) → t ≡ (get_or l i empty).end → Some t ≡ earliest (λ s. s.end) l
+  least-earliest t k = ap Some (k ∙ ap (λ (j : ℕ). (get_or l j empty).end) e) ∙ sym (leading-earliest l (least_end l) (least-leads l h))
 
 -- ## What the parts of the words show, all of them show
 
@@ -1010,13 +1010,7 @@ memory-same m b n c f g r e = (
   same_bytes b c f.bytes g.bytes (ap (λ (s : Splicer). s.name) e) (ap (λ (s : Splicer). s.hardware) e),
 )
 
--- ## What a word says
+-- ## One all of whose words are 0: what stands where none is kept
 
-pub says-closed : (n : ℕ) → n ≡ word_of Closed → Closed ≡ link_in n
-says-closed n e = rw e refl
-
-pub says-opened : (n : ℕ) → n ≡ word_of Opened → Opened ≡ link_in n
-says-opened n e = rw e refl
-
-pub says-initialised : (n : ℕ) → (n ≡ word_of Closed → ⊥) → (n ≡ word_of Opened → ⊥) → Initialised ≡ link_in n
-says-initialised n h k = rw (ne_eqb n (word_of Closed) h, ne_eqb n (word_of Opened) k) refl
+pub none-kept : (e : Past) → (e.conn ≡ 0) × ((e.id ≡ 0) × ((e.event ≡ 0) × ((e.result ≡ 0) × (e.played ≡ 0)))) → e ≡ unused
+none-kept e z = λ i. record { conn = z.0 i; id = z.1.0 i; event = z.1.1.0 i; result = z.1.1.1.0 i; played = z.1.1.1.1 i }

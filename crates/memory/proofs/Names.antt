@@ -1,7 +1,7 @@
 -- How a name is kept: its bytes before the first zero, over zeros; and how a connection's structure is. Assumes nothing.
 use mathlib.Core.Path.{◌≡◌, refl, sym, ap, ap₂, subst, ◌∙◌}
 use mathlib.Core.Bool.{Bool, true, false}
-use mathlib.Core.List.{List, [], ◌∷◌, ◌++◌, append_assoc, append-nil}
+use mathlib.Core.List.{List, [], ◌∷◌, ◌++◌, append_assoc}
 use Prim.Native.Nat.{ℕ, suc, ◌+◌, ◌-◌, ◌*◌, ◌≤◌, ◌<◌}
 use native.Mathlib.Omega.{arith}
 use native.Mathlib.Numerals.{add-one}
@@ -95,13 +95,12 @@ kept-part b c s low =
     (omega (arith, s.whole, length-drop (kept_from c) b)) in
     rw e (sym (kept_at b c low), (omega (arith, (s.kept c low).fits), l))
 
--- zeros over all of them, and a structure over zeros
-pub zeroed : (e : List ℕ) → length e ≡ longest_hardware → paste e 0 (zeros longest_hardware) longest_hardware ≡ zeros longest_hardware
-zeroed e h =
-    ap₂ (λ x y. x ++ y) (take_all longest_hardware (zeros longest_hardware) (omega (arith, length-replicate {A = ℕ} longest_hardware 0)))
-    (drop_of_length-le e {i = 0 + longest_hardware} (omega arith))
-    ∙ append-nil (zeros longest_hardware)
+-- there are all of them
+pub kept-long : (b : List ℕ) (c : ℕ) → Stored b → c ≤ 3
+    → length (part (kept_from c) (kept_from c + longest_hardware - kept_from c) b) ≡ longest_hardware
+kept-long b c s low = (kept-part b c s low).1.1
 
+-- a structure over zeros
 pub spread-over : (h : List ℕ) → length h ≤ longest_hardware → paste (zeros longest_hardware) 0 h (length h) ≡ spread h
 spread-over h k =
     rw zero-add (ap₂ (λ x y. x ++ y) (take_all (length h) h (omega arith)) (drop-zeros (length h) longest_hardware))

@@ -3,6 +3,7 @@
 // those that wait are each connection's, a word for each connection, the places of those that wait and of those that have started,
 // what ended lately. Its bytes: the ChannelName with zeros behind its end, and of each connection the Hardware_Config that it keeps,
 // with zeros behind its end.
+// C lends the words for one call, and theorems of the crates above speak of them and of `Form`: so it stands in contracts, and in no type.
 #![tactic(auto)]
 
 ghost use Rattle.std.specs.Prelude.{◌≡◌, true, [], ◌∷◌, ◌+◌, ◌-◌, ◌≤◌, ◌<◌, eqb, length, get_or, set};
@@ -16,15 +17,15 @@ ghost use Rattle.rules.specs.Recent.{most_kept, unused, recent_at, recent};
 ghost use Rattle.rules.specs.Answers.{is_past, latest};
 ghost use Rattle.rules.specs.Hardware.{longest_hardware, length_in, structure_in};
 ghost use Rattle.rules.specs.Instants.{on_air};
-ghost use Rattle.places.specs.Places.{Narrow, key_test, starts_from, round, zeros, flagged, unflagged, Unflagged};
+ghost use Rattle.places.specs.Places.{lot, Narrow, key_test, starts_from, round, flagged, unflagged, Unflagged};
 ghost use Rattle.memory.specs.declared.Which.TheVariants.{Waiting, Started};
-ghost use Rattle.memory.specs.Memory.{slot_of, ring_of, first_link, from_of, to_of, words, places_of, word_of, link_in};
+ghost use Rattle.memory.specs.Memory.{slot_of, ring_of, lot_of, first_link, from_of, to_of, words, places_of, word_of, link_in};
 ghost use Rattle.memory.specs.Memory.{sessions, see, Form, Now, timed, silenced, linked, relisted, recalling, onward, nothing_shown};
 ghost use Rattle.memory.specs.Memory.{Storable, tallied, past_width, past_from, ended_in};
 ghost use Rattle.memory.specs.Memory.{name_bytes, name_of, kept_of, spread, Stored, Holds, Named};
 
-use places::{Key, WIDTH};
-use rules::{Link, Ninths, Past, Session, When};
+use places::{Key, View, WIDTH};
+use rules::{Link, Ninths, Past, Session};
 
 // Where what stands in the words.
 const CLOCK: usize = 0;
@@ -81,6 +82,7 @@ const HARDWARE: usize = 256;
 pub const BYTES: usize = NAME + CONNECTIONS * HARDWARE;
 
 // The lists of sessions.
+// An enum and no closure: `slot_of`, `from_of`, `to_of`, `ring_of` of specs/Memory take it.
 #[derive(Clone, Copy)]
 pub enum Which {
     Waiting,
@@ -149,6 +151,24 @@ pub fn is_quiet(m: &[u64]) -> bool
     count(m, Which::Started) == 0
 }
 
+// The sessions of a list, to read.
+fn view(m: &[u64], which: Which) -> View<'_>
+    requires { Form m.now }
+    ensures is { lot result.q.now result.ring_end result.n ≡ lot_of which m.now }
+    ensures n { result.n ≡ length (sessions which m.now) }
+    ensures ring_end { result.ring_end ≡ ring_of which m.now }
+{
+    let n = count(m, which);
+    let ring_end = ring_end(m, which);
+    let a = from(which);
+    let e = to(which);
+    View {
+        q: &m[a..e],
+        ring_end,
+        n,
+    }
+}
+
 // The session `at`.
 pub fn load(m: &[u64], which: Which, at: usize) -> Session
     requires form { Form m.now }
@@ -156,24 +176,17 @@ pub fn load(m: &[u64], which: Which, at: usize) -> Session
     ensures is { result ≡ get_or (sessions which m.now) at empty }
     ensures narrow { Narrow result }
 {
-    let n = count(m, which);
-    let r = ring_end(m, which);
-    let a = from(which);
-    let e = to(which);
-    places::load(&m[a..e], r, n, at)
+    view(m, which).load(at)
 }
 
 // The connection of the session `at`.
+// One word each, as `View` of places has them: a function that takes which word would not say what it gives.
 pub fn conn_at(m: &[u64], which: Which, at: usize) -> u64
     requires form { Form m.now }
     requires at_in_bounds { at < length (sessions which m.now) }
     ensures { result ≡ (get_or (sessions which m.now) at empty).conn }
 {
-    let n = count(m, which);
-    let r = ring_end(m, which);
-    let a = from(which);
-    let e = to(which);
-    places::conn_at(&m[a..e], r, n, at)
+    view(m, which).conn_at(at)
 }
 
 // The number of the session `at`.
@@ -182,11 +195,7 @@ pub fn id_at(m: &[u64], which: Which, at: usize) -> u64
     requires at_in_bounds { at < length (sessions which m.now) }
     ensures { result ≡ (get_or (sessions which m.now) at empty).id }
 {
-    let n = count(m, which);
-    let r = ring_end(m, which);
-    let a = from(which);
-    let e = to(which);
-    places::id_at(&m[a..e], r, n, at)
+    view(m, which).id_at(at)
 }
 
 // What the started session `at` asks of the multiplexer.
@@ -195,8 +204,7 @@ pub fn mux_at(m: &[u64], at: usize) -> u64
     requires at_in_bounds { at < length (sessions Started m.now) }
     ensures { result ≡ (get_or (sessions Started m.now) at empty).mux }
 {
-    let n = count(m, Which::Started);
-    places::mux_at(&m[STARTED_FROM..PASTS], n, at)
+    view(m, Which::Started).mux_at(at)
 }
 
 // The end of the started session `at`.
@@ -205,8 +213,7 @@ pub fn end_at(m: &[u64], at: usize) -> Ninths
     requires at_in_bounds { at < length (sessions Started m.now) }
     ensures { result ≡ (get_or (sessions Started m.now) at empty).end }
 {
-    let n = count(m, Which::Started);
-    places::end_at(&m[STARTED_FROM..PASTS], n, at)
+    view(m, Which::Started).end_at(at)
 }
 
 // The place of the first that the key looks for, or how many there are.
@@ -214,11 +221,7 @@ pub fn find(m: &[u64], which: Which, key: Key) -> usize
     requires { Form m.now }
     ensures { result ≡ place (key_test key) (sessions which m.now) }
 {
-    let n = count(m, which);
-    let r = ring_end(m, which);
-    let a = from(which);
-    let e = to(which);
-    places::find(&m[a..e], r, n, key)
+    view(m, which).find(key)
 }
 
 // 02, CR 2: how many of the waiting are each connection's, as they are kept.
@@ -230,31 +233,28 @@ pub fn tally(m: &[u64]) -> [u64; 4]
 }
 
 // The first end of the started.
-pub fn least_end(m: &[u64]) -> When
+pub fn least_end(m: &[u64]) -> Option<Ninths>
     requires { Form m.now }
     ensures { result ≡ earliest (λ s. s.end) (sessions Started m.now) }
 {
-    let n = count(m, Which::Started);
-    if n == 0 {
-        return When::Never;
+    if is_quiet(m) {
+        return None;
     }
-    let q = &m[STARTED_FROM..PASTS];
-    let i = places::least_end(q, n);
-    When::At(places::end_at(q, n, i))
+    let started = view(m, Which::Started);
+    let i = started.least_end();
+    Some(started.end_at(i))
 }
 
 // The first start of the waiting, which stand in order of start.
-pub fn first_start(m: &[u64]) -> When
+pub fn first_start(m: &[u64]) -> Option<Ninths>
     requires form { Form m.now }
     requires sorted { Sorted (sessions Waiting m.now) }
     ensures { result ≡ earliest (λ s. s.start) (sessions Waiting m.now) }
 {
-    let n = count(m, Which::Waiting);
-    if n == 0 {
-        return When::Never;
+    if count(m, Which::Waiting) == 0 {
+        return None;
     }
-    let r = ring_end(m, Which::Waiting);
-    When::At(places::start_at(&m[WAITING_FROM..STARTED_FROM], r, n, 0))
+    Some(view(m, Which::Waiting).start_at(0))
 }
 
 // The first of the started has played d ninths more.
@@ -274,9 +274,7 @@ pub fn find_start(m: &[u64], t: Ninths) -> usize
     requires sorted { Sorted (sessions Waiting m.now) }
     ensures { result ≡ place (starts_from t.0) (sessions Waiting m.now) }
 {
-    let n = count(m, Which::Waiting);
-    let r = ring_end(m, Which::Waiting);
-    places::find_from(&m[WAITING_FROM..STARTED_FROM], r, n, t)
+    view(m, Which::Waiting).find_from(t)
 }
 
 // x before the session `at` of those that wait, counted for its connection, and the ring's end one on. How many places were shifted.
@@ -452,43 +450,25 @@ pub fn recent_at(m: &[u64], i: usize) -> Past
     past_in(m, b)
 }
 
-// What stands where none is kept.
-fn no_past() -> Past
-    ensures { result ≡ unused }
-{
-    Past {
-        conn: 0,
-        id: 0,
-        event: 0,
-        result: 0,
-        played: 0,
-    }
-}
-
 // The same of the last words alone, those of what ended, whatever they hold: fewer words keep nothing.
 pub fn ended_at(e: &[u64], i: usize) -> Past
     requires { i < most_kept }
     ensures { result ≡ ended_in e.now i }
 {
     if e.len() < PAST_WORDS {
-        return no_past();
+        return Past::default();
     }
     let next = e[PAST_NEXT] as usize;
     let p = (next % PAST_PLACES + (PAST_PLACES - 1 - i)) % PAST_PLACES;
     past_in(e, p * PAST_WIDTH)
 }
 
-// An end is kept there, of the connection's number.
+// An end is kept there, of the connection's number. No Option: that the result 0 says none is the law's (`unused`, `latest`).
+// No ==: it is compared with two numbers.
 fn is_past(e: Past, conn: u64, id: u64) -> bool
     ensures { result ≡ is_past conn id e }
 {
-    if e.result == 0 {
-        return false;
-    }
-    if conn != e.conn {
-        return false;
-    }
-    id == e.id
+    e.result != 0 && conn == e.conn && id == e.id
 }
 
 // The latest end of the connection's number, or what stands where none is kept: looked for from the newest down.
@@ -496,28 +476,24 @@ pub fn recall(m: &[u64], conn: u64, id: u64) -> Past
     requires { Form m.now }
     ensures { result ≡ latest conn id (recent (see m.now).queue.lately) }
 {
-    let mut i = 0;
-    while i < PAST_PLACES {
+    for i in 0..PAST_PLACES {
         let e = recent_at(m, i);
         if is_past(e, conn, id) {
             return e;
         }
-        i += 1;
     }
-    no_past()
+    Past::default()
 }
 
-// What a word says of its connection.
+// What a word says of its connection. No `From`: both types are others'.
 fn link_in(n: u64) -> Link
     ensures { result ≡ link_in n }
 {
-    if n == CLOSED {
-        return Link::Closed;
+    match n {
+        CLOSED => Link::Closed,
+        OPENED => Link::Opened,
+        _ => Link::Initialised,
     }
-    if n == OPENED {
-        return Link::Opened;
-    }
-    Link::Initialised
 }
 
 // The word that says it.
@@ -570,29 +546,26 @@ pub fn name(b: &[u8]) -> &[u8]
 fn name_len(name: &[u8]) -> usize
     ensures { result ≡ length (name_in name.now) }
 {
-    let mut i = 0;
-    while i < name.len() {
-        if name[i] == 0 {
+    for (i, b) in name.iter().enumerate() {
+        if *b == 0 {
             return i;
         }
-        i += 1;
     }
-    i
+    name.len()
 }
 
-// The first n bytes of `name` over those of b.
+// The first n bytes of `name` over those of b. By `copy_from_slice` a length that is not known calls memmove, and an archive needs nothing
+// but memset (docs/INTEGRATION.md).
 fn copy(b: &mut [u8], name: &[u8], n: usize)
     requires { (n ≤ length name.now) × (n ≤ length b.old) }
     ensures { b.new ≡ paste b.old 0 name.now n }
 {
-    let mut i = 0;
-    while i < n {
+    for i in 0..n {
         b[i] = name[i];
-        i += 1;
     }
 }
 
-// The name up to its first zero, and zeros behind it. The search and the copy stay two small loops.
+// The name up to its first zero, and zeros behind it.
 pub fn keep_name(b: &mut [u8; BYTES], name: &[u8; NAME])
     ensures { Named b.new (name_in name.now) }
 {
@@ -620,18 +593,6 @@ pub fn kept(b: &[u8], c: u32) -> &[u8]
     &b[at..end]
 }
 
-// Zeros in the bytes of a connection.
-fn clear_kept(k: &mut [u8])
-    requires { length k.old ≡ longest_hardware }
-    ensures { k.new ≡ zeros longest_hardware }
-{
-    let mut i = 0;
-    while i < HARDWARE {
-        k[i] = 0;
-        i += 1;
-    }
-}
-
 // Connection c keeps nothing.
 pub fn forget(b: &mut [u8], c: u32)
     requires stored { Stored b.old }
@@ -640,7 +601,7 @@ pub fn forget(b: &mut [u8], c: u32)
 {
     let at = NAME + c as usize * HARDWARE;
     let end = at + HARDWARE;
-    clear_kept(&mut b[at..end])
+    b[at..end].fill(0)
 }
 
 // The structure h over zeros.
@@ -649,7 +610,7 @@ fn put_kept(k: &mut [u8], h: &[u8])
     requires h_len_bound { length h.now ≤ longest_hardware }
     ensures { k.new ≡ spread h.now }
 {
-    clear_kept(&mut *k);
+    k.fill(0);
     copy(&mut *k, h, h.len())
 }
 

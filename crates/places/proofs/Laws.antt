@@ -22,7 +22,7 @@ use Rattle.rules.proofs.Count.{length-insert_at, length-remove_at, length-split,
 use Rattle.rules.proofs.Every.{all_get_d, each_at, none-some}
 use Rattle.rules.proofs.Tests.{eqb_same}
 use Rattle.places.specs.Places.{width, capacity, Row, round, turned, Ring, Lot, lot, places, spare, zeros, free, Good, Made, used}
-use Rattle.places.specs.Places.{starts_from, ends_first, least_end, flagged, Unflagged}
+use Rattle.places.specs.Places.{starts_from, ends_first, least_end, flagged}
 use Rattle.places.proofs.Words.{length-places, loaded, load_is, store_is, store-spare, played_word, store-played, places-zero}
 use Rattle.places.proofs.Words.{places_same}
 use Rattle.places.proofs.Ring.{size, turned_none, turned_same, flat-set, row_of, row_read}
@@ -151,6 +151,23 @@ words_same p q e m n g h l u d =
     let k : capacity p ≡ capacity q = ap (λ (i : ℕ). i / width) l in
     let s = same (lot p e m) (lot q e n) g h (size p e ∙ k ∙ sym (size q e)) u in
     places_same p q l (turned_same e (places p) (places q) (length-places p ∙ k ∙ sym (length-places q)) (ap (λ r. r.items) s)) d
+
+-- a session all of whose fields are 0: what stands where none is
+pub none-is : (s : Session) → (s.conn ≡ 0) × ((s.id ≡ 0) × ((s.prior ≡ 0) × ((s.start.0 ≡ 0) × ((s.end.0 ≡ 0)
+    × ((s.access ≡ 0) × ((s.overrides ≡ 0) × ((s.mux ≡ 0) × ((s.event ≡ 0) × (s.played.0 ≡ 0))))))))) → s ≡ empty
+unfolding empty
+none-is s e = λ i. record {
+  conn = e.0 i;
+  id = e.1.0 i;
+  prior = e.1.1.0 i;
+  start = record { 0 = e.1.1.1.0 i };
+  end = record { 0 = e.1.1.1.1.0 i };
+  access = e.1.1.1.1.1.0 i;
+  overrides = e.1.1.1.1.1.1.0 i;
+  mux = e.1.1.1.1.1.1.1.0 i;
+  event = e.1.1.1.1.1.1.1.1.0 i;
+  played = record { 0 = e.1.1.1.1.1.1.1.1.1 i };
+}
 
 -- zeros are good, and hold nothing
 pub cleared : (m : ℕ) → Good (lot (zeros m) 0 0)
@@ -450,26 +467,38 @@ pub record Omitting (p : Session → Bool) (u : List Session) (l : Lot) (i to : 
   pub front : take i (used l) ≡ take i u
   pub back : drop to (used l) ≡ omit p (drop i u)
 
-pub omitting-none : (p : Session → Bool) (l : Lot) → Good l → Omitting p (used l) l l.len l.len
-omitting-none p l g =
+-- none stands behind the last
+pub none-behind : (p : Session → Bool) (l : Lot) → Good l → drop l.len (used l) ≡ omit p (drop l.len (used l))
+none-behind p l g =
     let z : drop l.len (used l) ≡ [] = at-end l l.len g (omega arith) in
-    record { good = g; ahead = omega arith; fits = omega arith; front = refl; back = rw z refl }
+    rw z refl
 
 module _ (p : Session → Bool) (u : List Session) (l : Lot) (i to j : ℕ) (v : Omitting p u l i to) (e : i ≡ suc j) where
   -- the session j is still the one of the beginning, and the head of what is next
-  next-in : drop j u ≡ get_or (used l) j empty ∷ drop i u
-  next-in =
+  short-in : j < length u
+  short-in =
       let n : length (used l) ≡ l.len = length-used l v.good in
       let m = length-take-le i (used l) (omega (arith, v.ahead, v.fits)) in
-      let x : get_or (used l) j empty ≡ get_or u j empty =
+      omega (arith, length-take i u, ap length v.front)
+
+  same-in : get_or (used l) j empty ≡ get_or u j empty
+  same-in =
       sym (get_or-take i (used l) j empty (omega arith)) ∙ ap (λ (r : List Session). get_or r j empty) v.front
-      ∙ get_or-take i u j empty (omega arith) in
-      drop-cons u j empty (omega (arith, length-take i u, ap length v.front))
+      ∙ get_or-take i u j empty (omega arith)
+
+  next-in : drop j u ≡ get_or (used l) j empty ∷ drop i u
+  next-in =
+      drop-cons u j empty short-in
       ∙ ap (λ (k : ℕ). get_or u j empty ∷ drop k u) (sym e)
-      ∙ ap (λ (y : Session). y ∷ drop i u) (sym x)
+      ∙ ap (λ (y : Session). y ∷ drop i u) (sym same-in)
 
   front-in : take j (used l) ≡ take j u
   front-in = sym (take-take j i (used l) (omega arith)) ∙ ap (take j) v.front ∙ take-take j i u (omega arith)
+
+  -- what is told of it as one of u is so of it here
+  pub gone-in : (r : Bool) → (j < length u → get_or (used l) j empty ≡ get_or u j empty → r ≡ p (get_or u j empty))
+      → p (get_or (used l) j empty) ≡ r
+  gone-in r f = ap p same-in ∙ sym (f short-in same-in)
 
   pub omitting-goes : p (get_or (used l) j empty) ≡ true → Omitting p u l j to
   omitting-goes d =
@@ -532,18 +561,3 @@ sorted-place (s ∷ u) (suc i) o h =
 
 pub flag_at : (f : List ℕ) (u : List Session) (i : ℕ) → Sorted u → i < length u → flagged f u (get_or u i empty) ≡ eqb 1 (get_or f i 0)
 flag_at f u i o h = ap (λ (k : ℕ). eqb 1 (get_or f k 0)) (sorted-place u i o h)
-
-pub omitting-from : (f : List ℕ) (l : Lot) (i : ℕ) → Good l → Unflagged f i (used l) → Omitting (flagged f (used l)) (used l) l i i
-omitting-from f l i g h =
-    let n : length (used l) ≡ l.len = length-used l g in
-    record { good = g; ahead = omega arith; fits = omega (arith, h.within); front = refl; back = h.all }
-
-pub omitting-flag : (f : List ℕ) (u : List Session) (l : Lot) (i to j : ℕ) → Omitting (flagged f u) u l i to → i ≡ suc j → Sorted u →
-    flagged f u (get_or (used l) j empty) ≡ eqb 1 (get_or f j 0)
-omitting-flag f u l i to j v e o =
-    let n : length (used l) ≡ l.len = length-used l v.good in
-    let m = length-take-le i (used l) (omega (arith, v.ahead, v.fits)) in
-    let x : get_or (used l) j empty ≡ get_or u j empty =
-    sym (get_or-take i (used l) j empty (omega arith)) ∙ ap (λ (r : List Session). get_or r j empty) v.front
-    ∙ get_or-take i u j empty (omega arith) in
-    ap (flagged f u) x ∙ flag_at f u j o (omega (arith, length-take i u, ap length v.front))

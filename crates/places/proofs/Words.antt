@@ -159,6 +159,10 @@ load_is q b d r =
     let at : loaded q b ≡ row (drop b q) = λ i. session_of (λ k. sym (get_or-drop b q k 0) i) in
     at ∙ ap (λ (i : ℕ). row (drop i q)) (whole b r.0) ∙ rows-loaded (capacity q) (b / width) q d r.1
 
+-- and so is that of its words
+pub place_of : (q : List ℕ) (b : ℕ) (s : Session) → Row b q → loaded q b ≡ s → get_or (places q) (b / width) empty ≡ s
+place_of q b s r e = sym (load_is q b empty r) ∙ e
+
 stored-with : (q : List ℕ) (b : ℕ) (x : Session) → Row b q → stored q b x ≡ with (b / width) q x
 stored-with q b x r =
     let e : b + 0 ≡ b / width * width = omega (arith, r.0) in

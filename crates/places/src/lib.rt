@@ -4,13 +4,14 @@
 // later move one on, and the ring's end with them. The started ones stand in 10 that never come round.
 #![tactic(auto)]
 
-ghost use Rattle.std.specs.Prelude.{◌≡◌, ◌∷◌, ◌+◌, ◌-◌, ◌/◌, ◌≤◌, ◌<◌, length, drop, set, get_or};
+ghost use Rattle.std.specs.Prelude.{◌≡◌, Bool, List, ◌∷◌, ◌+◌, ◌-◌, ◌/◌, ◌≤◌, ◌<◌, length, drop, set, get_or};
+ghost use Rattle.rules.specs.declared.Session.{Session};
 ghost use Rattle.rules.specs.Lists.{omit, place, insert_at, remove_at};
 ghost use Rattle.rules.specs.State.{empty, of};
 ghost use Rattle.rules.specs.Follows.Wires.{Sorted};
 ghost use Rattle.rules.specs.Instants.{on_air};
-ghost use Rattle.places.specs.Places.{width, capacity, Row, places, spare, round, turned, Ring, next, lot, used, moved};
-ghost use Rattle.places.specs.Places.{Narrow, Good, Made, key_test, starts_from, least_end, unflagged, Unflagged};
+ghost use Rattle.places.specs.Places.{width, capacity, Row, places, spare, round, turned, Ring, Ring-prop, next, lot, used, moved};
+ghost use Rattle.places.specs.Places.{session_of, Narrow, Good, Made, key_test, starts_from, least_end, flagged, unflagged, Unflagged};
 
 use rules::{Ninths, Session};
 
@@ -39,30 +40,22 @@ const ASKED: usize = 6;
 
 const PLAYED: usize = 7;
 
-// What a search looks for: `key_test` of specs/ gives each its test.
+// What a search looks for. `key_test` of specs/ names the test of each; with a closure `find` could promise only what its calls gave, and
+// each caller would prove again that these are that test.
 #[derive(Clone, Copy)]
 pub enum Key {
     Held(u64, u64),
     Follows(u64, u64),
 }
 
-// What stands where no session is.
-fn nothing() -> Session
-    ensures is { result ≡ empty }
-    ensures narrow { Narrow result }
-{
-    Session {
-        conn: 0,
-        id: 0,
-        prior: 0,
-        start: Ninths(0),
-        end: Ninths(0),
-        access: 0,
-        overrides: 0,
-        mux: 0,
-        event: 0,
-        played: Ninths(0),
-    }
+// The n sessions that lent words hold, to read: those used of a ring of places that ends before the place `ring_end`.
+#[derive(Clone, Copy)]
+pub struct View<'a> {
+    pub q: &'a [u64],
+    pub ring_end: usize,
+    pub n: usize,
+    pub ghost good: { Good (lot q.now ring_end n) },
+    pub ghost ring: { Ring (capacity q.now) ring_end } by { Ring-prop (capacity q.now) ring_end },
 }
 
 // The session in the words from b on, the first of a place.
@@ -124,71 +117,6 @@ fn write_at(q: &mut [u64], ring_end: usize, i: usize, x: Session)
     write_row(&mut *q, (ring_end + i) % ROUND * WIDTH, x)
 }
 
-// The session `at` of the n that are used.
-pub fn load(q: &[u64], ring_end: usize, n: usize, at: usize) -> Session
-    requires good { Good (lot q.now ring_end n) }
-    requires ring { Ring (capacity q.now) ring_end }
-    requires at_lt_n { at < n }
-    ensures is { result ≡ get_or (used (lot q.now ring_end n)) at empty }
-    ensures narrow { Narrow result }
-{
-    let free = q.len() / WIDTH - n;
-    read_at(q, ring_end, free + at)
-}
-
-// The connection of the session `at`.
-pub fn conn_at(q: &[u64], ring_end: usize, n: usize, at: usize) -> u64
-    requires good { Good (lot q.now ring_end n) }
-    requires ring { Ring (capacity q.now) ring_end }
-    requires at_lt_n { at < n }
-    ensures { result ≡ (get_or (used (lot q.now ring_end n)) at empty).conn }
-{
-    let b = (ring_end + (q.len() / WIDTH - n + at)) % ROUND * WIDTH;
-    q[b + CONN]
-}
-
-// The number of the session `at`.
-pub fn id_at(q: &[u64], ring_end: usize, n: usize, at: usize) -> u64
-    requires good { Good (lot q.now ring_end n) }
-    requires ring { Ring (capacity q.now) ring_end }
-    requires at_lt_n { at < n }
-    ensures { result ≡ (get_or (used (lot q.now ring_end n)) at empty).id }
-{
-    let b = (ring_end + (q.len() / WIDTH - n + at)) % ROUND * WIDTH;
-    q[b + ID]
-}
-
-// The start of the session `at`.
-pub fn start_at(q: &[u64], ring_end: usize, n: usize, at: usize) -> Ninths
-    requires good { Good (lot q.now ring_end n) }
-    requires ring { Ring (capacity q.now) ring_end }
-    requires at_lt_n { at < n }
-    ensures { result ≡ (get_or (used (lot q.now ring_end n)) at empty).start }
-{
-    let b = (ring_end + (q.len() / WIDTH - n + at)) % ROUND * WIDTH;
-    Ninths(q[b + START])
-}
-
-// What the session `at` asks of the multiplexer, in places that never come round.
-pub fn mux_at(q: &[u64], n: usize, at: usize) -> u64
-    requires good { Good (lot q.now 0 n) }
-    requires at_lt_n { at < n }
-    ensures { result ≡ (get_or (used (lot q.now 0 n)) at empty).mux }
-{
-    let b = (q.len() / WIDTH - n + at) * WIDTH;
-    q[b + ASKED] / 2 % 128
-}
-
-// The end of the session `at`, in places that never come round.
-pub fn end_at(q: &[u64], n: usize, at: usize) -> Ninths
-    requires good { Good (lot q.now 0 n) }
-    requires at_lt_n { at < n }
-    ensures { result ≡ (get_or (used (lot q.now 0 n)) at empty).end }
-{
-    let b = (q.len() / WIDTH - n + at) * WIDTH;
-    Ninths(q[b + END])
-}
-
 // The first of places that never come round has played d ninths more.
 pub fn play(q: &mut [u64], n: usize, d: u64)
     requires good { Good (lot q.old 0 n) }
@@ -199,6 +127,8 @@ pub fn play(q: &mut [u64], n: usize, d: u64)
     let b = (q.len() / WIDTH - n) * WIDTH;
     q[b + PLAYED] += d;
 }
+
+// What writes takes the words, and no View that lends them: between two writes a place is a hole, and its invariant would not hold.
 
 // The session `from` in place of the session `to` too.
 fn move_to(q: &mut [u64], ring_end: usize, n: usize, from: usize, to: usize)
@@ -225,7 +155,7 @@ pub fn insert_at(q: &mut [u64], ring_end: usize, n: usize, at: usize, x: Session
 {
     let mut hole = ring_end * WIDTH;
     let mut moves: usize = 0;
-    while moves < n - at {
+    for _later in at..n {
         let before = (hole + RING_WORDS - WIDTH) % RING_WORDS;
         let y = read_row(&*q, before);
         write_row(&mut *q, hole, y);
@@ -256,16 +186,13 @@ pub fn remove_at(q: &mut [u64], ring_end: usize, n: usize, at: usize)
 {
     let first = q.len() / WIDTH - n;
     let mut hole = (ring_end + (first + at)) % ROUND * WIDTH;
-    let mut left = at;
-    while 0 < left {
+    for _passed in 0..at {
         let before = (hole + RING_WORDS - WIDTH) % RING_WORDS;
         let y = read_row(&*q, before);
         write_row(&mut *q, hole, y);
         hole = before;
-        left -= 1;
     }
-    let none = nothing();
-    write_row(&mut *q, hole, none)
+    write_row(&mut *q, hole, Session::default())
 }
 
 // Without the first k.
@@ -275,10 +202,8 @@ fn drop_first(q: &mut [u64], ring_end: usize, n: usize, k: usize)
     requires k_le_n { k ≤ n }
     ensures { Made q.old q.new ring_end (n - k) (drop k (used (lot q.old ring_end n))) }
 {
-    let mut i = 0;
-    while i < k {
+    for i in 0..k {
         remove_at(&mut *q, ring_end, n - i, 0);
-        i += 1;
     }
 }
 
@@ -293,62 +218,87 @@ fn matches_row(q: &[u64], b: usize, key: Key) -> bool
     }
 }
 
-// The place of the first that the key looks for, or n.
-pub fn find(q: &[u64], ring_end: usize, n: usize, key: Key) -> usize
-    requires good { Good (lot q.now ring_end n) }
-    requires ring { Ring (capacity q.now) ring_end }
-    ensures { result ≡ place (key_test key) (used (lot q.now ring_end n)) }
-{
-    let mut b = (ring_end + (q.len() / WIDTH - n)) % ROUND * WIDTH;
-    let mut at = 0;
-    while at < n {
-        if matches_row(q, b, key) {
-            return at;
-        }
-        b = (b + WIDTH) % RING_WORDS;
-        at += 1;
-    }
-    at
+// Which sessions of a list go, where the others close up.
+trait Goes {
+    // What is asked of the list; and of that list, which of its sessions go.
+    ghost fits: { Self → List Session → Type 0 };
+
+    ghost gone: { Self → List Session → Session → Bool };
+
+    // The session `at`, which still stands where it stood in u.
+    fn goes(&self, v: View<'_>, at: usize) -> bool
+        requires { at < v.n }
+        ensures { (u : List Session) → fits self.now u → at < length u
+            → get_or (used (lot v.entry.q.now v.entry.ring_end v.entry.n)) at empty ≡ get_or u at empty
+            → result ≡ gone self.now u (get_or u at empty) };
 }
 
-// The place of the first that starts at t or later, or n, of sessions in order of start: by halving.
-pub fn find_from(q: &[u64], ring_end: usize, n: usize, t: Ninths) -> usize
-    requires good { Good (lot q.now ring_end n) }
-    requires ring { Ring (capacity q.now) ring_end }
-    requires sorted { Sorted (used (lot q.now ring_end n)) }
-    ensures { result ≡ place (starts_from t.0) (used (lot q.now ring_end n)) }
-{
-    let mut low: usize = 0;
-    let mut high = n;
-    while low < high {
-        let mid = low + (high - low) / 2;
-        let s = start_at(q, ring_end, n, mid);
-        if s.0 < t.0 {
-            low = mid + 1;
-        } else {
-            high = mid;
-        }
+// Those of a connection.
+#[derive(Clone, Copy)]
+struct Of(u64);
+
+impl Goes for Of {
+    ghost fits = { λ _ _. Unit {0} };
+
+    ghost gone = { λ o _ s. of o.0 s };
+
+    fn goes(&self, v: View<'_>, at: usize) -> bool {
+        self.0 == v.conn_at(at)
     }
-    low
 }
 
-// Without the connection's: the `left` others close up, from the last on.
+// Of a list in order of start, those whose flag is 1.
+#[derive(Clone, Copy)]
+struct Flagged<'a>(&'a [u8; 64]);
+
+impl Goes for Flagged<'_> {
+    ghost fits = { λ _ u. Sorted u };
+
+    ghost gone = { λ f u s. flagged f.0.now u s };
+
+    fn goes(&self, _v: View<'_>, at: usize) -> bool {
+        1 == self.0[at]
+    }
+}
+
+// Without those that go, none of which stands from the place `end` on: the `stay` others close up, from the last on. A while, as it ends
+// where all that stay have closed up, and looks at none before.
+fn close_up<G: Goes>(q: &mut [u64], ring_end: usize, n: usize, who: &G, end: usize, stay: usize)
+    requires good { Good (lot q.old ring_end n) }
+    requires ring { Ring (capacity q.old) ring_end }
+    requires fits { G.fits who.now (used (lot q.old ring_end n)) }
+    requires end_le_n { end ≤ n }
+    requires rest { drop end (used (lot q.old ring_end n))
+        ≡ omit (G.gone who.now (used (lot q.old ring_end n))) (drop end (used (lot q.old ring_end n))) }
+    requires stay_value { stay ≡ length (omit (G.gone who.now (used (lot q.old ring_end n))) (used (lot q.old ring_end n))) }
+    ensures { Made q.old q.new ring_end stay
+        (omit (G.gone who.now (used (lot q.old ring_end n))) (used (lot q.old ring_end n))) }
+{
+    let mut to = end;
+    let mut from = end;
+    while n - stay < to {
+        from -= 1;
+        let v = View {
+            q: &*q,
+            ring_end,
+            n,
+        };
+        if !who.goes(v, from) {
+            to -= 1;
+            move_to(&mut *q, ring_end, n, from, to);
+        }
+    }
+    drop_first(&mut *q, ring_end, n, n - stay)
+}
+
+// Without the connection's: the `left` others close up.
 pub fn omit_of(q: &mut [u64], ring_end: usize, n: usize, conn: u64, left: usize)
     requires good { Good (lot q.old ring_end n) }
     requires ring { Ring (capacity q.old) ring_end }
     requires left_value { left ≡ length (omit (of conn) (used (lot q.old ring_end n))) }
     ensures { Made q.old q.new ring_end left (omit (of conn) (used (lot q.old ring_end n))) }
 {
-    let mut to = n;
-    let mut i = n;
-    while n - left < to {
-        i -= 1;
-        if conn != conn_at(&*q, ring_end, n, i) {
-            to -= 1;
-            move_to(&mut *q, ring_end, n, i, to);
-        }
-    }
-    drop_first(&mut *q, ring_end, n, n - left)
+    close_up(&mut *q, ring_end, n, &Of(conn), n, left)
 }
 
 // Of sessions in order of start, without those whose flag is 1, none of which stands from the place `end` on: the `stay` others close up.
@@ -368,33 +318,133 @@ pub fn omit_flagged(
     ensures { Made q.old q.new ring_end stay
         (unflagged flags.now (used (lot q.old ring_end n))) }
 {
-    let mut to = end;
-    let mut from = end;
-    while n - stay < to {
-        from -= 1;
-        if flags[from] != 1 {
-            to -= 1;
-            move_to(&mut *q, ring_end, n, from, to);
-        }
-    }
-    drop_first(&mut *q, ring_end, n, n - stay)
+    close_up(&mut *q, ring_end, n, &Flagged(flags), end, stay)
 }
 
-// The place of the session that ends first; of several that end together the first. In places that never come round.
-pub fn least_end(q: &[u64], n: usize) -> usize
-    requires good { Good (lot q.now 0 n) }
-    requires n_nonzero { 0 < n }
-    ensures { result ≡ least_end (used (lot q.now 0 n)) }
-{
-    let mut best = 0;
-    let mut i = 1;
-    while i < n {
-        let t = end_at(q, n, i);
-        let least = end_at(q, n, best);
-        if t.0 < least.0 {
-            best = i;
-        }
-        i += 1;
+impl View<'_> {
+    // The first word of the session `at`.
+    fn row(self, at: usize) -> usize
+        requires { at < self.n }
+        ensures row { Row result self.entry.q.now }
+        ensures is { session_of (λ k. get_or self.entry.q.now (result + k) 0)
+            ≡ get_or (used (lot self.entry.q.now self.entry.ring_end self.entry.n)) at empty }
+    {
+        (self.ring_end + (self.q.len() / WIDTH - self.n + at)) % ROUND * WIDTH
     }
-    best
+
+    // The same in places that never come round: a step less where the started are looked through at each tick.
+    fn flat_row(self, at: usize) -> usize
+        requires at_lt_n { at < self.n }
+        requires flat { self.ring_end ≡ 0 }
+        ensures row { Row result self.entry.q.now }
+        ensures is { session_of (λ k. get_or self.entry.q.now (result + k) 0)
+            ≡ get_or (used (lot self.entry.q.now self.entry.ring_end self.entry.n)) at empty }
+    {
+        (self.q.len() / WIDTH - self.n + at) * WIDTH
+    }
+
+    // The session `at`.
+    pub fn load(self, at: usize) -> Session
+        requires at_lt_n { at < self.n }
+        ensures is { result ≡ get_or (used (lot self.entry.q.now self.entry.ring_end self.entry.n)) at empty }
+        ensures narrow { Narrow result }
+    {
+        read_row(self.q, self.row(at))
+    }
+
+    // One word of a session each, which is all that is read: a function that takes which word would not say what it gives.
+
+    // The connection of the session `at`.
+    pub fn conn_at(self, at: usize) -> u64
+        requires at_lt_n { at < self.n }
+        ensures { result ≡ (get_or (used (lot self.entry.q.now self.entry.ring_end self.entry.n)) at empty).conn }
+    {
+        self.q[self.row(at) + CONN]
+    }
+
+    // The number of the session `at`.
+    pub fn id_at(self, at: usize) -> u64
+        requires at_lt_n { at < self.n }
+        ensures { result ≡ (get_or (used (lot self.entry.q.now self.entry.ring_end self.entry.n)) at empty).id }
+    {
+        self.q[self.row(at) + ID]
+    }
+
+    // The start of the session `at`.
+    pub fn start_at(self, at: usize) -> Ninths
+        requires at_lt_n { at < self.n }
+        ensures { result ≡ (get_or (used (lot self.entry.q.now self.entry.ring_end self.entry.n)) at empty).start }
+    {
+        Ninths(self.q[self.row(at) + START])
+    }
+
+    // What the session `at` asks of the multiplexer, in places that never come round.
+    pub fn mux_at(self, at: usize) -> u64
+        requires at_lt_n { at < self.n }
+        requires flat { self.ring_end ≡ 0 }
+        ensures { result ≡ (get_or (used (lot self.entry.q.now self.entry.ring_end self.entry.n)) at empty).mux }
+    {
+        self.q[self.flat_row(at) + ASKED] / 2 % 128
+    }
+
+    // The end of the session `at`, in places that never come round.
+    pub fn end_at(self, at: usize) -> Ninths
+        requires at_lt_n { at < self.n }
+        requires flat { self.ring_end ≡ 0 }
+        ensures { result ≡ (get_or (used (lot self.entry.q.now self.entry.ring_end self.entry.n)) at empty).end }
+    {
+        Ninths(self.q[self.flat_row(at) + END])
+    }
+
+    // The place of the first that the key looks for, or n.
+    pub fn find(self, key: Key) -> usize
+        ensures { result ≡ place (key_test key) (used (lot self.entry.q.now self.entry.ring_end self.entry.n)) }
+    {
+        // b goes along with `at`: `row(at)` at each turn takes one instruction more a place, 757 for 697 at a start that fails over 64.
+        let mut b = (self.ring_end + (self.q.len() / WIDTH - self.n)) % ROUND * WIDTH;
+        for at in 0..self.n {
+            if matches_row(self.q, b, key) {
+                return at;
+            }
+            b = (b + WIDTH) % RING_WORDS;
+        }
+        self.n
+    }
+
+    // The place of the first that starts at t or later, or n, of sessions in order of start. Halved by hand: `partition_point` takes a
+    // slice, and a ring of rows is none.
+    pub fn find_from(self, t: Ninths) -> usize
+        requires sorted { Sorted (used (lot self.q.now self.ring_end self.n)) }
+        ensures { result ≡ place (starts_from t.0) (used (lot self.entry.q.now self.entry.ring_end self.entry.n)) }
+    {
+        let mut low: usize = 0;
+        let mut high = self.n;
+        while low < high {
+            let mid = low + (high - low) / 2;
+            let s = self.start_at(mid);
+            if s.0 < t.0 {
+                low = mid + 1;
+            } else {
+                high = mid;
+            }
+        }
+        low
+    }
+
+    // The place of the session that ends first; of several that end together the first. In places that never come round.
+    pub fn least_end(self) -> usize
+        requires n_nonzero { 0 < self.n }
+        requires flat { self.ring_end ≡ 0 }
+        ensures { result ≡ least_end (used (lot self.entry.q.now self.entry.ring_end self.entry.n)) }
+    {
+        let mut best = 0;
+        for i in 1..self.n {
+            let t = self.end_at(i);
+            let least = self.end_at(best);
+            if t.0 < least.0 {
+                best = i;
+            }
+        }
+        best
+    }
 }

@@ -1,3 +1,4 @@
+-- Byte by byte (`copied`).
 use mathlib.Core.Path.{◌≡◌}
 use native.Mathlib.Omega.{arith}
 use lib.Seq.{paste-zero}
@@ -6,15 +7,15 @@ use borrow.Author.Rules.{rules}
 use Rattle.memory.proofs.copy.Goals as goal
 
 pub loop-i-init : goal.loop-i-init
-loop-i-init c = (omega arith, omega arith, paste-zero c.args.b.now 0 c.args.name.now)
+loop-i-init c = (omega arith, paste-zero c.args.b.now 0 c.args.name.now)
 
 pub loop-i-preserved : goal.loop-i-preserved
 loop-i-preserved c =
     let l = c.loop-i in
-    (omega arith, search rules, copied c.args.b.now c.args.name.now l.i l.b (omega arith) (omega arith) l.invariant.2)
+    (search rules, copied c.args.b.now c.args.name.now l.i l.b (omega arith) (omega arith) l.invariant.1)
 
 pub returns : goal.returns
 returns c =
     let l = c.loop-i in
     let e : l.i ≡ c.args.n = omega arith in
-    rw e at l.invariant.2
+    rw e at l.invariant.1

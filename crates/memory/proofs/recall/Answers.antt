@@ -5,6 +5,7 @@ use Rattle.rules.specs.Recent.{recent_at}
 use Rattle.rules.specs.Answers.{is_past}
 use Rattle.rules.proofs.Recall.{seek-none, seek-more, seek_hit, seek-out}
 use Rattle.memory.specs.Memory.{see}
+use Rattle.memory.proofs.Laws.{none-kept}
 use Rattle.memory.proofs.recall.Goals as goal
 
 pub loop-i-init : goal.loop-i-init
@@ -35,4 +36,5 @@ loop-i-preserved c =
 pub returns : goal.returns
 returns c =
     let i = c.loop-i in
-    c.no_past.ensures ∙ seek-out c.args.conn c.args.id (see c.args.m.now).queue.lately i.i (omega arith) i.invariant
+    none-kept c.default.result c.default.ensures ∙ seek-out c.args.conn c.args.id (see c.args.m.now).queue.lately i.i (omega arith)
+    i.invariant

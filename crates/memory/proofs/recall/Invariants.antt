@@ -1,12 +1,7 @@
 -- None of the newest i is of the number (`Seeking`), and the next one decides.
-use Prim.Native.Nat.{◌-◌}
-use Rattle.rules.specs.Recent.{most_kept}
 use Rattle.rules.proofs.Recall.{Seeking}
 use Rattle.memory.specs.Memory.{see}
 use Rattle.memory.proofs.recall.Given as goal
 
 abbrev pub invariant-loop-i : goal.invariant-loop-i
 invariant-loop-i l = Seeking l.conn l.id (see l.m).queue.lately l.i
-
-abbrev pub decreases-loop-i : goal.decreases-loop-i
-decreases-loop-i l = most_kept - l.i

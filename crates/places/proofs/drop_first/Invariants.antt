@@ -8,6 +8,3 @@ use Rattle.places.proofs.drop_first.Given as goal
 abbrev pub invariant-loop-i : goal.invariant-loop-i
 invariant-loop-i l = (l.i ≤ l.k) × (length l.q ≡ length l.initial.q) × Made l.initial.q l.q l.ring_end (l.n - l.i)
     (drop l.i (used (lot l.initial.q l.ring_end l.n)))
-
-abbrev pub decreases-loop-i : goal.decreases-loop-i
-decreases-loop-i l = l.k - l.i

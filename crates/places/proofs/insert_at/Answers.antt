@@ -9,30 +9,27 @@ use Rattle.places.proofs.Ring.{size, ring-next, row_of, fills, shifts, turned_ta
 use Rattle.places.proofs.Laws.{insert-made}
 use Rattle.places.proofs.insert_at.Goals as goal
 
-pub loop-moves-init : goal.loop-moves-init
-loop-moves-init c = (omega arith, omega arith, refl, refl, refl)
+pub loop-later-init : goal.loop-later-init
+loop-later-init c = (omega arith, omega arith, refl, refl, refl)
 
 pub read_row-y-requires : goal.read_row-y-requires
 read_row-y-requires c =
-    let l = c.loop-moves in
+    let l = c.loop-later in
     let e = c.args.ring_end in
     row_of l.q (next e) (round - 1 - (l.moves + 1)) _ (ring-next (capacity l.q) e (omega arith)) (omega arith) (omega arith)
 
 pub write_row-requires : goal.write_row-requires
 write_row-requires c =
-    let l = c.loop-moves in
+    let l = c.loop-later in
     let e = c.args.ring_end in record {
       row = row_of l.q (next e) (round - 1 - l.moves) l.hole (ring-next (capacity l.q) e (omega arith))
           (omega arith) l.invariant.1;
       narrow = c.read_row-y.ensures.narrow;
     }
 
-pub loop-moves-smaller : goal.loop-moves-smaller
-loop-moves-smaller c = omega arith
-
-pub loop-moves-preserved : goal.loop-moves-preserved
-loop-moves-preserved c =
-    let l = c.loop-moves in
+pub loop-later-preserved : goal.loop-later-preserved
+loop-later-preserved c =
+    let l = c.loop-later in
     let e = c.args.ring_end in
     let a = (l.hole + round * width - width) % (round * width) in
     let w = c.write_row.ensures in
@@ -43,7 +40,7 @@ loop-moves-preserved c =
 
 pub write_row-requires-2 : goal.write_row-requires-2
 write_row-requires-2 c =
-    let l = c.loop-moves in
+    let l = c.loop-later in
     let e = c.args.ring_end in record {
       row = row_of l.q (next e) (round - 1 - l.moves) l.hole (ring-next (capacity l.q) e (omega arith))
           (omega arith) l.invariant.1;
@@ -52,7 +49,7 @@ write_row-requires-2 c =
 
 pub returns : goal.returns
 returns c =
-    let l = c.loop-moves in
+    let l = c.loop-later in
     let p = c.args.q.now in
     let e = c.args.ring_end in
     let x = c.args.x in
