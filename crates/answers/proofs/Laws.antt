@@ -10,14 +10,11 @@ use lib.Dec.{eqb}
 use lib.ListN.{length, get_or, set, drop, length-take, length-drop}
 use lib.Seq.{length-take-le, take-take}
 use borrow.Author.Tests.{eq-eqb, ne_eqb}
-use mathlib.Core.Logic.{inl, inr}
-use types.Run.{OneOf}
-use denote.Enum.Declared.{tag_of}
-use Rattle.rules.specs.contracts.Link.{the_type}
 use Rattle.rules.specs.declared.Ninths.{Ninths}
 use Rattle.rules.specs.declared.Micros.{Micros}
 use Rattle.rules.specs.declared.Link.{Link}
 use Rattle.rules.specs.declared.Link.TheVariants.{Closed, Opened, Initialised}
+use Rattle.std.specs.Prelude.{Option}
 use Rattle.rules.specs.declared.Message.{Message}
 use Rattle.rules.specs.declared.Session.{Session}
 use Rattle.rules.specs.declared.Past.{Past}
@@ -211,10 +208,11 @@ config-says m b c {e} {o} {len = len} h y rx rh g =
 -- ## A message that is read
 
 -- y: the message that was read; x: what it is
-pub reads : (s : Splicer) (c id : ℕ) (d section : List ℕ) {at : ℕ} {e : List ℕ} {r : Did} {n b o : List ℕ} {y x : Message} → y ≡ read id d
+pub reads : (s : Splicer) (c id : ℕ) (d section : List ℕ) {at : ℕ} {e : List ℕ} {r : Did} {n b o : List ℕ} {y x : Option Message} → y
+    ≡ read id d
     → y ≡ x →
     Gives (answer_read c x d section s) at e r n b o → Gives (answer_read c (read id d) d section s) at e r n b o
-reads s c id d section {at} {e} {r} {n} {b} {o} p q g = subst (λ (z : Message). Gives (answer_read c z d section s) at e r n b o)
+reads s c id d section {at} {e} {r} {n} {b} {o} p q g = subst (λ (z : Option Message). Gives (answer_read c z d section s) at e r n b o)
     (sym q ∙ p)
     g
 

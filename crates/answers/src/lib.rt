@@ -22,7 +22,7 @@ pub struct Sent {
     pub id: u16,
 }
 
-// Init: "Revision not 2 gives 102, another name 104, else 100".
+// Init: "Revision not 2 gives 102, another name 104, else 100": numbers, as the documents name them and `init_result` of rules gives them.
 fn init_result(revision: u16, asked: &[u8], name: &[u8]) -> u16
     ensures { result ≡ init_result revision asked.now (name_in name.now) }
 {
@@ -74,7 +74,7 @@ fn answer_alive(m: &[u64], b: &[u8], conn: u32, out: &mut [u8]) -> usize
     writing::alive_response(&mut *out, conn as u64, 2, air.id, time)
 }
 
-// 02, CR 8: the latest end of the number that is kept, "121 with the SessionID alone where none is kept".
+// 02, CR 8: the latest end of the number that is kept, "121 with the SessionID alone where none is kept": a result 0 in the lent words.
 fn answer_extended(m: &[u64], conn: u32, x: u32, out: &mut [u8]) -> usize
     requires form { Form m.now }
     requires in_bounds { 30 ≤ length out.old }
@@ -132,39 +132,28 @@ fn answer_read(
         (shown m.old b.old))
         (see m.old).ring_end out.old result m.new b.new out.new }
 {
-    let message = reading::read(sent.id, d);
-    match message {
-        Message::Init(revision) => Did {
-            consumed: 0,
-            written: answer_init(&mut *m, &mut *b, sent.conn, revision, d, &mut *out),
-            moved: 0,
-        },
-        Message::Alive => Did {
-            consumed: 0,
-            written: answer_alive(&*m, &*b, sent.conn, &mut *out),
-            moved: 0,
-        },
-        Message::Splice(r) => requests::answer_splice(&mut *m, sent.conn as u64, r, &mut *out),
-        Message::Abort(x) => Did {
-            consumed: 0,
-            written: requests::answer_abort(&mut *m, sent.conn as u64, x as u64, &mut *out),
-            moved: 0,
-        },
-        Message::Extended(x) => Did {
-            consumed: 0,
-            written: answer_extended(&*m, sent.conn, x, &mut *out),
-            moved: 0,
-        },
-        Message::Config => Did {
-            consumed: 0,
-            written: answer_config(&*m, &*b, sent.conn, section, &mut *out),
-            moved: 0,
-        },
-        Message::Unreadable => Did {
-            consumed: 0,
-            written: general(sent.conn, 123, &mut *out),
-            moved: 0,
-        },
+    match reading::read(sent.id, d) {
+        Some(Message::Init(revision)) => Did::unmoved(answer_init(
+            &mut *m, &mut *b, sent.conn, revision, d, &mut *out,
+        )),
+        Some(Message::Alive) => Did::unmoved(answer_alive(&*m, &*b, sent.conn, &mut *out)),
+        Some(Message::Splice(r)) => requests::answer_splice(
+            &mut *m,
+            sent.conn as u64,
+            r,
+            &mut *out,
+        ),
+        Some(Message::Abort(x)) => Did::unmoved(requests::answer_abort(
+            &mut *m,
+            sent.conn as u64,
+            x as u64,
+            &mut *out,
+        )),
+        Some(Message::Extended(x)) => Did::unmoved(answer_extended(&*m, sent.conn, x, &mut *out)),
+        Some(Message::Config) => Did::unmoved(answer_config(
+            &*m, &*b, sent.conn, section, &mut *out,
+        )),
+        None => Did::unmoved(general(sent.conn, 123, &mut *out)),
     }
 }
 
@@ -172,10 +161,7 @@ fn answer_read(
 fn is_barred(link: Link, id: u16) -> bool
     ensures { result ≡ barred link id }
 {
-    if let Link::Initialised = link {
-        return false;
-    }
-    id != 0x0000 && id != reading::INIT_REQUEST
+    link != Link::Initialised && id != 0x0000 && id != reading::INIT_REQUEST
 }
 
 // 1 and 3: no answer.
@@ -205,25 +191,13 @@ pub fn answer(
 {
     let link = memory::link(&*m, sent.conn);
     if is_barred(link, sent.id) {
-        return Did {
-            consumed: 0,
-            written: general(sent.conn, 103, &mut *out),
-            moved: 0,
-        };
+        return Did::unmoved(general(sent.conn, 103, &mut *out));
     }
     if is_mute(sent.id) {
-        return Did {
-            consumed: 0,
-            written: 0,
-            moved: 0,
-        };
+        return Did::unmoved(0);
     }
     if !reading::is_read(sent.id) {
-        return Did {
-            consumed: 0,
-            written: general(sent.conn, 120, &mut *out),
-            moved: 0,
-        };
+        return Did::unmoved(general(sent.conn, 120, &mut *out));
     }
     answer_read(&mut *m, &mut *b, sent, d, section, &mut *out)
 }

@@ -12,7 +12,6 @@ use borrow.Author.Tests.{ltb-true, ltb-false, leb-true, leb-false, eqb-true, eqb
 use Rattle.rules.specs.declared.Session.{Session}
 use Rattle.rules.specs.declared.Start.{Start}
 use Rattle.rules.specs.declared.Start.TheVariants.{Timed, Linked}
-use Rattle.rules.specs.declared.When.TheVariants.{At, Never}
 use Rattle.rules.specs.declared.Request.{Request}
 use Rattle.rules.specs.declared.Ninths.{Ninths}
 use Rattle.rules.specs.Units.{from_ticks}
@@ -22,9 +21,9 @@ use Rattle.rules.specs.Lists.{All, bit, some, place, remove_at}
 use Rattle.rules.specs.State.{Queue, empty, of, is, starts_at, starts_after, held, holds}
 use Rattle.rules.specs.Follows.Wires.{Sorted}
 use Rattle.rules.specs.Instants.{outranks}
-use Rattle.rules.specs.Splicing.{end_of, start_of, unknown_prior, wrong_number, collides, waits, full, splice_result, session_at}
+use Rattle.rules.specs.Splicing.{end_of, start_of, unknown_prior, wrong_number, collides, waits, raised, full, splice_result, session_at}
 use Rattle.rules.specs.Follows.Sound.{raised_sum}
-use Rattle.rules.specs.Splicing.{prior_of, too_late, sum_of}
+use Rattle.rules.specs.Splicing.{prior_of, too_late}
 use Rattle.rules.specs.Follows.Sound.{held_count, Once}
 use Rattle.rules.proofs.Tests.{clash, by}
 use Rattle.rules.proofs.All.{all-into}
@@ -36,9 +35,9 @@ use Rattle.memory.specs.declared.Which.{Which}
 use Rattle.memory.specs.declared.Which.TheVariants.{Waiting, Started}
 use Rattle.memory.specs.Memory.{slot_of, ring_of, from_of, to_of, places_of, tallied, Form, see, sessions, list_of, listed}
 use Rattle.memory.proofs.Laws.{sessions-list, counted, room_at, tallied-at}
-use Rattle.checks.specs.declared.Where.{Where}
-use Rattle.checks.specs.declared.Where.TheVariants.{In, Nowhere}
-use Rattle.checks.specs.Found.{where_in, end_in, start_in, Few}
+use Rattle.std.specs.Prelude.{Option, Some, None, is_some, sum_by, ◌^◌}
+use Rattle.checks.specs.declared.Place.{Place}
+use Rattle.checks.specs.Found.{placed, where_in, end_in, start_in, Few}
 
 -- ## The first that passes, of two lists
 
@@ -91,9 +90,9 @@ module _ (c x : ℕ) (q : Queue) where
   both = length-append q.waiting q.started
 
   -- a fact of where it is, from the fact of each place
-  by-where : (P : Where → Type 0) → (i < length q.waiting → P (In Waiting i))
-      → (length q.waiting ≤ i → j < length q.started → P (In Started j))
-      → (length q.waiting ≤ i → length q.started ≤ j → P Nowhere) → P (where_in c x q)
+  by-where : (P : Option Place → Type 0) → (i < length q.waiting → P (Some (placed Waiting i)))
+      → (length q.waiting ≤ i → j < length q.started → P (Some (placed Started j)))
+      → (length q.waiting ≤ i → length q.started ≤ j → P None) → P (where_in c x q)
   unfolding where_in
   by-where P f g h =
       by P (ltb i (length q.waiting)) _ _ (λ e. f (ltb-true _ _ e))
@@ -103,9 +102,9 @@ module _ (c x : ℕ) (q : Queue) where
   known_at h = some-place (is c x) (held q) ∙ lt-ltb n (length (held q)) h
 
   -- what is told of each place
-  abbrev Told : Where → Type 0
-  Told (In v k) = HeldAt c x q v k
-  Told Nowhere = holds c x q ≡ false
+  abbrev Told : Option Place → Type 0
+  Told (Some p) = HeldAt c x q p.which p.at
+  Told None = holds c x q ≡ false
 
   told : Told (where_in c x q)
   told =
@@ -132,10 +131,17 @@ module _ (c x : ℕ) (q : Queue) where
       let e = place-behind (is c x) q.waiting q.started l in
       some-place (is c x) (held q) ∙ le-ltb n (length (held q)) (omega (arith, e, both)))
 
-  pub held_at : {v : Which} {k : ℕ} → where_in c x q ≡ In v k → HeldAt c x q v k
+  pub held_at : {p : Place} → where_in c x q ≡ Some p → HeldAt c x q p.which p.at
   held_at e = subst Told e told
 
-  pub held-nowhere : where_in c x q ≡ Nowhere → holds c x q ≡ false
+  pub held_some : is_some (where_in c x q) ≡ holds c x q
+  held_some = go (where_in c x q) told
+    where
+      go : (o : Option Place) → Told o → is_some o ≡ holds c x q
+      go (Some p) h = sym h.known
+      go None h = sym h
+
+  pub held-nowhere : where_in c x q ≡ None → holds c x q ≡ false
   held-nowhere e = subst Told e told
 
   -- a number is held once: no other session has it
@@ -146,21 +152,22 @@ module _ (c x : ℕ) (q : Queue) where
 -- ## The start
 
 module _ (c : ℕ) where
-  pub start-known : (s : Start) (q : Queue) {t : Ninths} → start_in c s q ≡ At t → (unknown_prior c s q ≡ false) × (start_of c s q ≡ t.0)
+  pub start-known : (s : Start) (q : Queue) {t : Ninths} → start_in c s q ≡ Some t → (unknown_prior c s q ≡ false) × (start_of c s q ≡ t.0)
   unfolding start_in end_in start_of unknown_prior
   start-known (Timed m) q e = (refl, cc)
   start-known (Linked p) q {t} e = go (holds c p q) e
     where
-      go : (b : Bool) → cond b (At (record { 0 = end_of c p (held q) })) Never ≡ At t → (not b ≡ false) × (end_of c p (held q) ≡ t.0)
+      go : (b : Bool) → cond {A = Option Ninths} b (Some (record { 0 = end_of c p (held q) })) None ≡ Some t → (not b ≡ false)
+          × (end_of c p (held q) ≡ t.0)
       go true f = (refl, cc)
       go false f = let z : ◌≡◌ {A = ℕ} 0 1 = cc in absurd (omega arith)
 
-  pub start_none : (s : Start) (q : Queue) → start_in c s q ≡ Never → unknown_prior c s q ≡ true
+  pub start_none : (s : Start) (q : Queue) → start_in c s q ≡ None → unknown_prior c s q ≡ true
   unfolding start_in end_in unknown_prior
   start_none (Timed m) q e = let z : ◌≡◌ {A = ℕ} 0 1 = cc in absurd (omega arith)
   start_none (Linked p) q e = go (holds c p q) e
     where
-      go : (b : Bool) → cond b (At (record { 0 = end_of c p (held q) })) Never ≡ Never → not b ≡ true
+      go : (b : Bool) → cond {A = Option Ninths} b (Some (record { 0 = end_of c p (held q) })) None ≡ None → not b ≡ true
       go true f = let z : ◌≡◌ {A = ℕ} 0 1 = cc in absurd (omega arith)
       go false f = refl
 
@@ -168,19 +175,20 @@ module _ (c : ℕ) where
 
 -- the two searches of `where_held`: k wait, and d have started
 module _ (c x : ℕ) (q : Queue) {i k : ℕ} (a : i ≡ place (is c x) q.waiting) (e : k ≡ length q.waiting) where
-  pub found-waiting : i < k → In Waiting i ≡ where_in c x q
+  pub found-waiting : i < k → Some (placed Waiting i) ≡ where_in c x q
   unfolding where_in
-  found-waiting l = rw (lt-ltb (place (is c x) q.waiting) (length q.waiting) (omega arith)) (ap (In Waiting) a)
+  found-waiting l = rw (lt-ltb (place (is c x) q.waiting) (length q.waiting) (omega arith)) (ap (λ (k : ℕ). Some (placed Waiting k)) a)
 
   module _ (l : k ≤ i) {j d : ℕ} (b : j ≡ place (is c x) q.started) (f : d ≡ length q.started) where
     none-waits : ltb (place (is c x) q.waiting) (length q.waiting) ≡ false
     none-waits = le-ltb (place (is c x) q.waiting) (length q.waiting) (omega arith)
 
-    pub found-started : j < d → In Started j ≡ where_in c x q
+    pub found-started : j < d → Some (placed Started j) ≡ where_in c x q
     unfolding where_in
-    found-started h = rw (none-waits, lt-ltb (place (is c x) q.started) (length q.started) (omega arith)) (ap (In Started) b)
+    found-started h = rw (none-waits, lt-ltb (place (is c x) q.started) (length q.started) (omega arith))
+        (ap (λ (k : ℕ). Some (placed Started k)) b)
 
-    pub found_nowhere : d ≤ j → Nowhere ≡ where_in c x q
+    pub found_nowhere : d ≤ j → None ≡ where_in c x q
     unfolding where_in
     found_nowhere h = rw (none-waits, le-ltb (place (is c x) q.started) (length q.started) (omega arith))
 
@@ -189,13 +197,13 @@ module _ (c x : ℕ) (m : List ℕ) {v : Which} {i : ℕ} (h : HeldAt c x (see m
   pub found_within : i < length (sessions v m)
   found_within = omega (arith, h.within, ap length (sessions-list v m))
 
-  pub found-end : (s : Session) → s ≡ get_or (sessions v m) i empty → At s.end ≡ end_in c x (see m).queue
+  pub found-end : (s : Session) → s ≡ get_or (sessions v m) i empty → Some s.end ≡ end_in c x (see m).queue
   unfolding end_in
   found-end s e =
       rw h.known
-      (ap (λ (u : Session). At u.end) (e ∙ ap (λ (l : List Session). get_or l i empty) (sessions-list v m) ∙ sym h.found))
+      (ap (λ (u : Session). Some u.end) (e ∙ ap (λ (l : List Session). get_or l i empty) (sessions-list v m) ∙ sym h.found))
 
-pub no_end : (c x : ℕ) (q : Queue) → holds c x q ≡ false → Never ≡ end_in c x q
+pub no_end : (c x : ℕ) (q : Queue) → holds c x q ≡ false → None ≡ end_in c x q
 unfolding end_in
 no_end c x q h = rw h
 
@@ -318,16 +326,23 @@ pub few-each : (t : List ℕ) → Few t → (get_or t 0 0 ≤ 64) × (get_or t 1
 few-each t f = (f 0 (omega arith), f 1 (omega arith), f 2 (omega arith), f 3 (omega arith))
 
 module _ (w : List Session) {t : List ℕ} (e : t ≡ tallied w) where
-  pub tally-few : length w ≤ places_of Waiting → Few t
+  tally-few : length w ≤ places_of Waiting → Few t
   tally-few l c h = rw (e, tallied-at w c h) (omega (arith, count≤length (of c) w))
+
+  raised-all : sum_by raised t ≡ raised_sum w
+  unfolding tallied
+  raised-all = rw e (omega arith)
+
+  pub sum-fits : length w ≤ places_of Waiting → sum_by raised t < 2 ^ 64
+  unfolding tallied
+  sum-fits l =
+      let n = few-each (tallied w) (subst Few e (tally-few l)) in
+      let f : raised_sum w < 2 ^ 64 = omega (arith, n) in
+      omega (arith, raised-all, f)
 
   module _ (c : ℕ) (low : c ≤ 3) where
     counts : get_or t c 0 ≡ waits c w
     counts = rw e (tallied-at w c low)
-
-    sums : sum_of (λ d. get_or t d 0) ≡ raised_sum w
-    unfolding tallied
-    sums = rw e
 
     pub full-twenty : get_or t c 0 ≡ 20 → true ≡ full c w
     unfolding full
@@ -337,9 +352,9 @@ module _ (w : List Session) {t : List ℕ} (e : t ≡ tallied w) where
     unfolding full
     full-few h l = rw (ne_eqb (waits c w) 20 (λ f. h (counts ∙ f)), lt-leb 10 (waits c w) (omega (arith, counts)))
 
-    pub full-sum : {s : ℕ} → (get_or t c 0 ≡ 20 → ⊥) → 10 ≤ get_or t c 0 → s ≡ sum_of (λ d. get_or t d 0) → eqb s 64 ≡ full c w
+    pub full-sum : {s : ℕ} → (get_or t c 0 ≡ 20 → ⊥) → 10 ≤ get_or t c 0 → s ≡ sum_by raised t → eqb s 64 ≡ full c w
     unfolding full
-    full-sum h l f = rw (ne_eqb (waits c w) 20 (λ z. h (counts ∙ z)), le-leb 10 (waits c w) (omega (arith, counts)), f ∙ sums)
+    full-sum h l f = rw (ne_eqb (waits c w) 20 (λ z. h (counts ∙ z)), le-leb 10 (waits c w) (omega (arith, counts)), f ∙ raised-all)
 
 -- ## "with the first that applies"
 
@@ -352,7 +367,7 @@ module _ (c x : ℕ) (q : Queue) where
   wrong-held h e = rw (ne_eqb x nobody h) e
 
 -- b, where the start is known: the prior, if one is named, is held
-wrong-is : (c : ℕ) (r : Request) (q : Queue) {t : Ninths} {b : Bool} → start_in c r.start q ≡ At t
+wrong-is : (c : ℕ) (r : Request) (q : Queue) {t : Ninths} {b : Bool} → start_in c r.start q ≡ Some t
     → b ≡ (eqb r.id nobody || holds c r.id q) → b ≡ wrong_number c r q
 wrong-is c r q e f = rw (start-known c r.start q e).0 (f ∙ go (eqb r.id nobody) (holds c r.id q))
   where
@@ -363,7 +378,7 @@ wrong-is c r q e f = rw (start-known c r.start q e).0 (f ∙ go (eqb r.id nobody
 
 module _ (clock c : ℕ) (r : Request) (new : Session) (q : Queue) where
   -- b, where it is not
-  pub result-none : start_in c r.start q ≡ Never → 121 ≡ splice_result clock c r new q
+  pub result-none : start_in c r.start q ≡ None → 121 ≡ splice_result clock c r new q
   unfolding splice_result
   result-none e = rw (start_none c r.start q e) (go (eqb r.id nobody) (holds c r.id q) _)
     where
@@ -373,7 +388,7 @@ module _ (clock c : ℕ) (r : Request) (new : Session) (q : Queue) where
       go false false n = refl
 
   -- the start is known, and each test gives what the code asks
-  module _ {t : Ninths} (start : start_in c r.start q ≡ At t) {b : Bool}
+  module _ {t : Ninths} (start : start_in c r.start q ≡ Some t) {b : Bool}
       (asked-b : b ≡ (eqb r.id nobody || holds c r.id q)) where
     is_b : b ≡ wrong_number c r q
     is_b = wrong-is c r q start asked-b

@@ -2,14 +2,11 @@
 -- Rests on rules' laws of what is written into a buffer, and on memory's: what is shown determines every word.
 use mathlib.Core.Path.{◌≡◌, refl, sym, ap, subst, ◌∙◌}
 use mathlib.Core.Bool.{Bool, true, false, ◌||◌}
-use mathlib.Core.Logic.{inl, inr}
 use mathlib.Core.List.{List, [], ◌∷◌, ◌++◌, map}
 use Prim.Native.Nat.{ℕ, zero, suc, ◌+◌, ◌-◌, ◌≤◌, ◌<◌}
 use native.Mathlib.Omega.{arith}
 use lib.ListN.{length, take, get_or, length-append, length-take, length-drop}
 use borrow.Rule.Slice.PartMut.{put_mid, mid_of}
-use types.Run.{OneOf}
-use denote.Enum.Declared.{tag_of}
 use Rattle.rules.specs.declared.Session.{Session}
 use Rattle.rules.specs.declared.Past.{Past}
 use Rattle.rules.specs.declared.Ending.{Ending}
@@ -24,7 +21,6 @@ use Rattle.rules.specs.Records.{Record, result_of, record_bytes, output}
 use Rattle.rules.specs.Ends.{Turn, quiet, writes, and_then, ended, past, ending, one_end, all_end, endings, Walk, dismissed, cancelled}
 use Rattle.rules.specs.Ends.{closed_by}
 use Rattle.rules.specs.Instants.{failed}
-use Rattle.rules.specs.contracts.Ending.{the_type}
 use Rattle.rules.proofs.Tests.{by, clash}
 use Rattle.rules.proofs.All.{all-into}
 use Rattle.rules.proofs.Bounds.{longest}
@@ -128,11 +124,6 @@ pub completing : (h : Ending) → ((r : ℕ) → h ≡ Response r → ⊥) → C
 completing (Complete r) k = tt
 completing Failed k = tt
 completing (Response r) k = k r refl
-
-pub failing : (h : Ending) → Completing h → ((r : ℕ) → h ≡ Complete r → ⊥) → h ≡ Failed
-failing (Complete r) c k = absurd (k r refl)
-failing Failed c k = refl
-failing (Response r) c k = absurd c
 
 -- the result of an end is its own, whoever ends
 pub result-any : (h : Ending) (s : Session) → result_of (ended h empty) ≡ result_of (ended h s)

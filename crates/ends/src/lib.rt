@@ -26,6 +26,9 @@ struct Chain {
     end: usize,
 }
 
+// `out` and `len` stay two here and in instants: tried as a struct behind a reference, whose slice is not known to keep its length, so that
+// each promise had to say so as well; and `run` and `end_all_of` give the count back to callers that lend a slice.
+
 // A SpliceComplete that is an end: flag 1 with the time on air, or flag 0 and 109 of a start that failed.
 fn write_complete(how: Ending, x: Session, out: &mut [u8], len: usize) -> usize
     requires writable { Writable how x }
@@ -33,25 +36,21 @@ fn write_complete(how: Ending, x: Session, out: &mut [u8], len: usize) -> usize
     requires room_for_in_bounds { len + room_for 1 ≤ length out.old }
     ensures { Tells out.old len (ended how x ∷ []) result out.new }
 {
-    let mut result = 109;
-    let mut flag = 0;
-    let mut played = Ticks(0);
-    if let Ending::Complete(n) = how {
-        result = n;
-        flag = 1;
-        played = units::to_ticks(x.played);
-    }
+    let (result, flag, played) = match how {
+        Ending::Complete(n) => (n, 1, units::to_ticks(x.played)),
+        Ending::Failed | Ending::Response(_) => (109, 0, Ticks(0)),
+    };
     len + writing::splice_complete(&mut out[len..], x.conn, result, x.id, flag, played)
 }
 
 // The result of an end, whoever ends.
+// A number, as the wire has it; no From: Ending is of rules.
 fn result_of(how: Ending) -> u16
     ensures { result ≡ result_of (ended how empty) }
 {
     match how {
-        Ending::Complete(n) => n,
+        Ending::Complete(n) | Ending::Response(n) => n,
         Ending::Failed => 109,
-        Ending::Response(n) => n,
     }
 }
 
@@ -180,6 +179,7 @@ fn end_covered_of(m: &mut [u64; WORDS], conn: u64, out: &mut [u8], len: usize) -
     ensures { Does (theirs_ended Started conn) len m.old out.old result m.new out.new }
 {
     let mut to = len;
+    // not a `for`: one that ends leaves the list, and the next stands at its place
     let mut i = 0;
     while i < memory::count(&*m, Which::Started) {
         let whose = memory::conn_at(&*m, Which::Started, i);
@@ -202,15 +202,13 @@ fn end_waiting_of(m: &mut [u64; WORDS], conn: u64, out: &mut [u8], len: usize) -
     let n = memory::count(&*m, Which::Waiting);
     let mut to = len;
     let mut left = 0;
-    let mut i = 0;
-    while i < n {
+    for i in 0..n {
         let x = memory::load(&*m, Which::Waiting, i);
         if conn == x.conn {
             to = write_end(&mut *m, Ending::Response(116), x, &mut *out, to);
         } else {
             left += 1;
         }
-        i += 1;
     }
     if left < n {
         memory::omit_of(&mut *m, Which::Waiting, conn, left);
@@ -227,6 +225,7 @@ pub fn end_due(m: &mut [u64; WORDS], t: Ninths, out: &mut [u8], len: usize) -> u
 {
     let mut how = Ending::Complete(100);
     let mut to = len;
+    // not a `for`, as in `end_covered_of`
     let mut i = 0;
     while i < memory::count(&*m, Which::Started) {
         let end = memory::end_at(&*m, i);
@@ -241,37 +240,33 @@ pub fn end_due(m: &mut [u64; WORDS], t: Ninths, out: &mut [u8], len: usize) -> u
 }
 
 // x was requested behind the connection's number.
+// No ==: a session is compared with two numbers.
 fn is_behind(x: Session, conn: u64, id: u64) -> bool
     ensures { result ≡ follows conn id x }
 {
-    if conn != x.conn {
-        return false;
-    }
-    id == x.prior
+    conn == x.conn && id == x.prior
 }
 
-// The waiting sessions from the place i on that reach the number link by link: each that does gets the flag 1, and from there the walk goes
-// on behind its number. The place behind the last of them, or `end` where there is none.
-fn walk(m: &[u64; WORDS], conn: u64, id: u64, i: usize, end: usize, flags: &mut [u8; 64]) -> usize
+// The waiting sessions that reach the number link by link: each that does gets the flag 1, and from there the walk goes on behind its own
+// number. The place behind the last of them, or 0 where there is none: of so many flags the first to the last are looked at. The flags are
+// numbers, as `flagged` and `Unflagged` of places read them; no Option: `behind_last` is a number.
+fn walk(m: &[u64; WORDS], conn: u64, id: u64, flags: &mut [u8; 64]) -> usize
     requires form { Form m.now }
     requires flags_len { length flags.old ≡ 64 }
-    requires i_in_bounds { i ≤ length (see m.now).queue.waiting }
-    ensures marks { flags.new ≡ take i flags.old
-        ++ flagging conn id (drop i (see m.now).queue.waiting) (drop i flags.old) }
-    ensures last { result ≡ behind_last conn id i (drop i (see m.now).queue.waiting) end }
+    ensures marks { flags.new ≡ flagging conn id (see m.now).queue.waiting flags.old }
+    ensures last { result ≡ behind_last conn id 0 (see m.now).queue.waiting 0 }
 {
-    if i < memory::count(m, Which::Waiting) {
+    let mut sought = id;
+    let mut end = 0;
+    for i in 0..memory::count(m, Which::Waiting) {
         let x = memory::load(m, Which::Waiting, i);
-        let next = x.id;
-        if is_behind(x, conn, id) {
+        if is_behind(x, conn, sought) {
             flags[i] = 1;
-            walk(m, conn, next, i + 1, i + 1, flags)
-        } else {
-            walk(m, conn, id, i + 1, end, flags)
+            sought = x.id;
+            end = i + 1;
         }
-    } else {
-        end
     }
+    end
 }
 
 // The waiting sessions whose flag is 1, all of them the chain's, end with the result; the others close up.
@@ -297,15 +292,13 @@ fn end_flagged(
     let end = chain.end;
     let mut to = len;
     let mut left = n - end;
-    let mut i = 0;
-    while i < end {
+    for i in 0..end {
         if flags[i] == 1 {
             let x = memory::load(&*m, Which::Waiting, i);
             to = write_end(&mut *m, Ending::Response(res), x, &mut *out, to);
         } else {
             left += 1;
         }
-        i += 1;
     }
     memory::omit_flagged(&mut *m, flags, chain.conn, end, left);
     to
@@ -321,11 +314,8 @@ fn dismiss(m: &mut [u64; WORDS], res: u16, conn: u64, id: u64, out: &mut [u8], l
     let i = memory::find(&*m, Which::Waiting, Key::Follows(conn, id));
     if i < memory::count(&*m, Which::Waiting) {
         let mut flags = [0; 64];
-        let end = walk(&*m, conn, id, 0, 0, &mut flags);
-        let chain = Chain {
-            conn: conn,
-            end: end,
-        };
+        let end = walk(&*m, conn, id, &mut flags);
+        let chain = Chain { conn, end };
         end_flagged(&mut *m, res, chain, &flags, &mut *out, len)
     } else {
         len

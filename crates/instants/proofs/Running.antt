@@ -7,7 +7,7 @@ use Prim.Native.Nat.{ℕ, suc, ◌+◌, ◌-◌, ◌≤◌, ◌<◌}
 use native.Mathlib.Omega.{arith}
 use lib.ListN.{length}
 use Rattle.rules.specs.declared.Ninths.{Ninths}
-use Rattle.rules.specs.declared.When.TheVariants.{At, Never}
+use Rattle.std.specs.Prelude.{Some, None}
 use Rattle.rules.specs.Lists.{All}
 use Rattle.rules.specs.State.{Queue, due, not_after, to_come}
 use Rattle.rules.specs.Records.{Record, output}
@@ -39,12 +39,12 @@ behind-then : (rs ss : List Record) (t : Turn) → behind rs (behind ss t) ≡ b
 behind-then rs ss t = ap (λ l. writes l t.queue) (sym (append_assoc rs ss t.written))
 
 module _ (now until : ℕ) (q : Queue) where
-  runs-stop : not_after until (due q) ≡ Never → run_all now until q ≡ quiet (elapse (until - now) q)
+  runs-stop : not_after until (due q) ≡ None → run_all now until q ≡ quiet (elapse (until - now) q)
   unfolding run_all
   runs-stop e = run-stop (to_come q) now until q e
 
   -- the next instant is t
-  module _ {t : Ninths} (d : not_after until (due q) ≡ At t) where
+  module _ {t : Ninths} (d : not_after until (due q) ≡ Some t) where
     less : to_come (moved now t.0 q).queue < to_come q
     less = moved-less now until t q d
 
@@ -139,7 +139,7 @@ module _ {until : ℕ} {s₀ : Memory} {e m : List ℕ} {n at : ℕ} {o : List �
   then-kept t q = ap (λ (z : Memory). silenced (more t) (queued q z)) v.kept ∙ silenced-then v.silent (more t) (queued q s₀)
 
   -- nothing is due any more, and `elapse` left m'
-  pub last_turn : {m' : List ℕ} → not_after until (due (see m).queue) ≡ Never →
+  pub last_turn : {m' : List ℕ} → not_after until (due (see m).queue) ≡ None →
       Now m' (passed (until - at) (see m)) → Ticked until s₀ e n m' o
   last_turn {m'} d f =
       let q = elapse (until - at) (see m).queue in
@@ -152,7 +152,7 @@ module _ {until : ℕ} {s₀ : Memory} {e m : List ℕ} {n at : ℕ} {o : List �
       })
 
   -- the next instant is t
-  module _ {t : Ninths} (d : not_after until (due (see m).queue) ≡ At t) where
+  module _ {t : Ninths} (d : not_after until (due (see m).queue) ≡ Some t) where
     pub turn-time : t.0 ≤ until
     turn-time = due-time until t (see m).queue d
 
@@ -228,7 +228,7 @@ pub record Arrived (until : ℕ) (s₀ : Memory) (e m : List ℕ) (n : ℕ) (t :
   pub at : ℕ
   pub words : List ℕ
   pub running : Running until s₀ e words n at o
-  pub next : not_after until (due (see words).queue) ≡ At t
+  pub next : not_after until (due (see words).queue) ≡ Some t
   pub then : Now m (passed (t.0 - at) (see words))
 
 -- the loop's invariant. The loop begins when the first instant t₀ has come, in words m₀, and cannot name those before: from some of them
@@ -239,7 +239,7 @@ pub record Onward (until : ℕ) (m₀ : List ℕ) (t₀ : Ninths) (e m : List �
   pub each : (s : Memory) → Arrived until s e m₀ 0 t₀ e → Arrived until s e m n t o
 
 module _ {until : ℕ} {s₀ : Memory} {e m : List ℕ} {n at : ℕ} {t : Ninths} {o m' : List ℕ} (v : Running until s₀ e m n at o)
-    (d : not_after until (due (see m).queue) ≡ At t) (f : Now m' (passed (t.0 - at) (see m))) where
+    (d : not_after until (due (see m).queue) ≡ Some t) (f : Now m' (passed (t.0 - at) (see m))) where
   pub arrived : Arrived until s₀ e m' n t o
   arrived = record { at = at; words = m; running = v; next = d; then = f }
 
@@ -249,7 +249,7 @@ module _ {until : ℕ} {s₀ : Memory} {e m : List ℕ} {n : ℕ} {t : Ninths} {
     pub arrived-on : Running until s₀ e m' to t.0 o'
     arrived-on = turn-next a.running a.next a.then g
 
-    module _ {u : Ninths} {m'' : List ℕ} (d : not_after until (due (see m').queue) ≡ At u)
+    module _ {u : Ninths} {m'' : List ℕ} (d : not_after until (due (see m').queue) ≡ Some u)
         (f : Now m'' (passed (u.0 - t.0) (see m'))) where
       pub arrived-next : Arrived until s₀ e m'' to u o'
       arrived-next = arrived arrived-on d f

@@ -10,9 +10,8 @@ use lib.ListN.{length, get_or}
 use borrow.Author.Tests.{eq-eqb, ne_eqb, lt-ltb, le-ltb}
 use Rattle.rules.specs.declared.Session.{Session}
 use Rattle.rules.specs.Lists.{All, place, remove_at}
-use Rattle.rules.specs.State.{Queue, empty, starts_at, to_come, with_started}
+use Rattle.rules.specs.State.{empty, starts_at, to_come, with_started}
 use Rattle.rules.specs.Follows.Wires.{Sorted}
-use Rattle.rules.specs.Records.{output}
 use Rattle.rules.specs.Ends.{Turn, writes, and_then}
 use Rattle.rules.specs.Instants.{outranks, may_start, began, failed, meets_equal, ousted, launched, start_at, end_at, instant}
 use Rattle.rules.specs.Instants.{on_air, elapse, silence}

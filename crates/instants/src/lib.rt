@@ -14,7 +14,7 @@ ghost use Rattle.ends.specs.Does.{Playable, room_for, Does, Ordered};
 ghost use Rattle.instants.specs.Runs.{Meets, Placed, Lasting, passed, Ticked};
 
 use memory::{WORDS, Which};
-use rules::{Ninths, Session, Ticks, When};
+use rules::{Ninths, Session, Ticks};
 
 // d ninths pass for the one on air or, with none, for the primary channel: the one place where time is added.
 fn elapse(m: &mut [u64; WORDS], d: u64)
@@ -113,7 +113,7 @@ fn at_instant(m: &mut [u64; WORDS], t: Ninths, out: &mut [u8], len: usize) -> us
 }
 
 // The next start or end.
-pub fn upcoming(m: &[u64]) -> When
+pub fn upcoming(m: &[u64]) -> Option<Ninths>
     requires form { Form m.now }
     requires sorted { Sorted (see m.now).queue.waiting }
     ensures { result ≡ due (see m.now).queue }
@@ -124,7 +124,7 @@ pub fn upcoming(m: &[u64]) -> When
 }
 
 // The same up to a time, if there is one.
-fn next_due(m: &[u64], until: Ninths) -> When
+fn next_due(m: &[u64], until: Ninths) -> Option<Ninths>
     requires form { Form m.now }
     requires sorted { Sorted (see m.now).queue.waiting }
     ensures { result ≡ not_after until.0 (due (see m.now).queue) }
@@ -143,7 +143,7 @@ pub fn run(m: &mut [u64; WORDS], until: Ninths, out: &mut [u8]) -> usize
 {
     let at = memory::clock(&*m);
     let first = next_due(&*m, until);
-    let When::At(begin) = first else {
+    let Some(begin) = first else {
         elapse(&mut *m, until.0 - at.0);
         return 0;
     };
@@ -153,7 +153,7 @@ pub fn run(m: &mut [u64; WORDS], until: Ninths, out: &mut [u8]) -> usize
     loop {
         len = at_instant(&mut *m, t, &mut *out, len);
         let due = next_due(&*m, until);
-        let When::At(next) = due else {
+        let Some(next) = due else {
             elapse(&mut *m, until.0 - t.0);
             return len;
         };

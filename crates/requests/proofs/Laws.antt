@@ -13,7 +13,7 @@ use Rattle.rules.specs.declared.Session.{Session}
 use Rattle.rules.specs.declared.Past.{Past}
 use Rattle.rules.specs.declared.Start.{Start}
 use Rattle.rules.specs.declared.Start.TheVariants.{Timed, Linked}
-use Rattle.rules.specs.declared.When.TheVariants.{At, Never}
+use Rattle.std.specs.Prelude.{Option, Some, None}
 use Rattle.rules.specs.declared.Ninths.{Ninths}
 use Rattle.rules.specs.declared.Request.{Request}
 use Rattle.rules.specs.declared.Ending.{Ending}
@@ -47,18 +47,14 @@ use Rattle.memory.specs.declared.Which.TheVariants.{Waiting, Started}
 use Rattle.memory.specs.Memory.{Memory, Form, see, sessions, list_of, relisted, onward, Now, places_of, OfFour, Storable}
 use Rattle.ends.specs.Does.{Turns, Does, one_ended, chain_ended, ending_at}
 use Rattle.ends.proofs.Laws.{tells-part, tells-then, turns-quiet, turns-first, turns_then}
-use Rattle.checks.specs.declared.Where.{Where}
-use Rattle.checks.specs.declared.Where.TheVariants.{In}
+use Rattle.checks.specs.declared.Place.{Place}
 use Rattle.checks.specs.Found.{start_in, where_in}
 use Rattle.checks.proofs.Laws.{HeldAt, held_at, held-alone, start-known, taken_at, free-at, taken-within, result-none}
 use Rattle.reply.specs.declared.Did.{Did}
+use Rattle.reply.specs.Unmoved.{unmoved}
 use Rattle.writing.specs.Puts.{Puts}
 use Rattle.requests.specs.declared.Way.{Way}
 use Rattle.requests.specs.Made.{MadeWay, Splices}
-
--- one that shifted no place
-abbrev unmoved : ℕ → Did
-unmoved len = record { consumed = 0; written = len; moved = 0 }
 
 -- ## Way for a new session
 
@@ -165,7 +161,7 @@ accept-turns new {m} {e} {n} {o} {n'} {ys} {r} a j v c l h b =
 
 -- no start is so late that an end wraps
 pub start_fits : (c clock : ℕ) (f : Start) (q : Queue) {t : Ninths} → Within f → Holding clock q → clock < horizon →
-    start_in c f q ≡ At t → t.0 < never
+    start_in c f q ≡ Some t → t.0 < never
 unfolding start_of
 start_fits c clock (Timed m) q h k l e = omega (arith, (start-known c (Timed m) q e).1)
 start_fits c clock (Linked p) q h k l e =
@@ -173,17 +169,17 @@ start_fits c clock (Linked p) q h k l e =
 
 -- of the session that r asks for: its start is known, and i is the place of the first from then on
 pub record Asks (c : ℕ) (r : Request) (q : Queue) (new : Session) (i : ℕ) : Type 0 where
-  pub known : start_in c r.start q ≡ At new.start
+  pub known : start_in c r.start q ≡ Some new.start
   pub is : new ≡ requested c r q
   pub at : i ≡ place (starts_from new.start.0) q.waiting
 
-pub asks : (c : ℕ) (r : Request) (q : Queue) {t : Ninths} {new : Session} {i : ℕ} → start_in c r.start q ≡ At t →
+pub asks : (c : ℕ) (r : Request) (q : Queue) {t : Ninths} {new : Session} {i : ℕ} → start_in c r.start q ≡ Some t →
     new ≡ session_at t.0 c r → i ≡ place (starts_from t.0) q.waiting → Asks c r q new i
 unfolding requested session_at
 asks c r q {t} f e k =
     let z = sym (ap (λ (s : Session). s.start) e) in
     record {
-      known = f ∙ ap At z;
+      known = f ∙ ap Some z;
       is = e ∙ ap (λ (n : ℕ). session_at n c r) (sym (start-known c r.start q f).1);
       at = k ∙ ap (λ (u : Ninths). place (starts_from u.0) q.waiting) z;
     }
@@ -241,7 +237,7 @@ module _ (c : ℕ) (r : Request) (m : List ℕ) {new : Session} {n : ℕ} (a : n
         (rw (ne_eqb n 100 h) (record { consumed = refl; does = turns-first k b; moved = refl }))
 
 -- b: its start is not known
-pub splice-unknown : (c : ℕ) (r : Request) (m : List ℕ) {e o : List ℕ} {len : ℕ} → start_in c r.start (see m).queue ≡ Never →
+pub splice-unknown : (c : ℕ) (r : Request) (m : List ℕ) {e o : List ℕ} {len : ℕ} → start_in c r.start (see m).queue ≡ None →
     Form m → Puts (SpliceResponse c 121 r.id) e len o → Splices (answer_splice (see m).clock c r (see m).queue) m e (unmoved len) m o
 splice-unknown c r m h f b =
     let new = requested c r (see m).queue in
@@ -341,8 +337,9 @@ module _ (c x : ℕ) (q : Queue) (i : ℕ) (once : Once q) where
       (cancels-one (is c x) past i q.started h.within h.passes k) w.0
 
 -- w: where the number is held; u: that list
-pub found_in : (c x : ℕ) (q : Queue) {w : Where} {v u : Which} {i : ℕ} → w ≡ where_in c x q → w ≡ In v i → v ≡ u → HeldAt c x q u i
-found_in c x q {i = i} f g h = held_at c x q (sym f ∙ g ∙ ap (λ (z : Which). In z i) h)
+pub found_in : (c x : ℕ) (q : Queue) {w : Option Place} {p : Place} {u : Which} → w ≡ where_in c x q → w ≡ Some p → p.which ≡ u
+    → HeldAt c x q u p.at
+found_in c x q {p = p} f g h = subst (λ (z : Which). HeldAt c x q z p.at) h (held_at c x q (sym f ∙ g))
 
 module _ (c x : ℕ) {m e : List ℕ} (f : Form m) where
   pub abort-unknown : {len : ℕ} {o : List ℕ} → holds c x (see m).queue ≡ false → Puts (AbortResponse c 121 x) e len o →

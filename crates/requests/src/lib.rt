@@ -15,10 +15,10 @@ ghost use Rattle.memory.specs.declared.Which.TheVariants.{Waiting};
 ghost use Rattle.ends.specs.Does.{Does};
 ghost use Rattle.requests.specs.Made.{MadeWay, Splices};
 
-use checks::Where;
+use checks::Spot;
 use memory::{WORDS, Which};
 use reply::Did;
-use rules::{Ninths, Request, Session, When};
+use rules::{Ninths, Request, Session};
 
 // Where a new session goes, and how far the output is written.
 #[derive(Clone, Copy)]
@@ -27,43 +27,44 @@ struct Way {
     len: usize,
 }
 
-// f. One that waits with the start t, if it is taken, ends first, with its followers; `at` is the place of the first from t on.
-fn make_way(m: &mut [u64; WORDS], t: Ninths, at: usize, taken: bool, out: &mut [u8]) -> Way
+// f. One that waits with the start t, if it is taken, ends first, with its followers; spot: where t falls.
+fn make_way(m: &mut [u64; WORDS], t: Ninths, spot: Spot, out: &mut [u8]) -> Way
     requires form { Form m.old }
     requires holding { Holding (see m.old).clock (see m.old).queue }
-    requires at_value { at ≡ place (starts_from t.0) (see m.old).queue.waiting }
-    requires taken_value { taken ≡ some (starts_at t.0) (see m.old).queue.waiting }
+    requires at_value { spot.at ≡ place (starts_from t.0) (see m.old).queue.waiting }
+    requires taken_value { spot.taken ≡ some (starts_at t.0) (see m.old).queue.waiting }
     requires in_bounds { 4096 ≤ length out.old }
     ensures { MadeWay t.0 m.old out.old result m.new out.new }
 {
-    if taken {
-        let to = ends::end_waiting(&mut *m, at, 109, &mut *out, 0);
+    if spot.taken {
+        let to = ends::end_waiting(&mut *m, spot.at, 109, &mut *out, 0);
         let i = memory::find_start(&*m, t);
         return Way { at: i, len: to };
     }
-    Way { at: at, len: 0 }
+    Way {
+        at: spot.at,
+        len: 0,
+    }
 }
 
 // f. The new session waits, once the one that it evicts has ended; the 100 is written last.
-fn accept(m: &mut [u64; WORDS], new: Session, at: usize, taken: bool, out: &mut [u8]) -> Did
+fn accept(m: &mut [u64; WORDS], new: Session, spot: Spot, out: &mut [u8]) -> Did
     requires form { Form m.old }
     requires holding { Holding (see m.old).clock (see m.old).queue }
-    requires at_value { at ≡ place (starts_from new.start.0) (see m.old).queue.waiting }
-    requires taken_value { taken ≡ some (starts_at new.start.0) (see m.old).queue.waiting }
+    requires at_value { spot.at ≡ place (starts_from new.start.0) (see m.old).queue.waiting }
+    requires taken_value { spot.taken ≡ some (starts_at new.start.0) (see m.old).queue.waiting }
     requires m_len_bound { length (see m.old).queue.waiting < places_of Waiting }
     requires storable { Storable new }
     requires in_bounds { 4096 ≤ length out.old }
     ensures { Splices (grants new (see m.old).queue)
         m.old out.old result m.new out.new }
 {
-    let way = make_way(&mut *m, new.start, at, taken, &mut *out);
-    let len = way.len;
+    let way = make_way(&mut *m, new.start, spot, &mut *out);
     let moved = memory::accept(&mut *m, way.at, new);
-    let to = len + writing::splice_response(&mut out[len..], new.conn, 100, new.id);
+    let to = way.len + writing::splice_response(&mut out[way.len..], new.conn, 100, new.id);
     Did {
-        consumed: 0,
-        written: to,
-        moved: moved,
+        moved,
+        ..Did::unmoved(to)
     }
 }
 
@@ -78,29 +79,17 @@ pub fn answer_splice(m: &mut [u64; WORDS], conn: u64, r: Request, out: &mut [u8]
     ensures { Splices (answer_splice (see m.old).clock conn r (see m.old).queue)
         m.old out.old result m.new out.new }
 {
-    let start = r.start;
-    let when = checks::start_of(&*m, conn, start);
-    let When::At(t) = when else {
-        let len = writing::splice_response(&mut *out, conn, 121, r.id as u64);
-        return Did {
-            consumed: 0,
-            written: len,
-            moved: 0,
-        };
+    let start = checks::start_of(&*m, conn, r.start);
+    let Some(t) = start else {
+        return Did::unmoved(writing::splice_response(&mut *out, conn, 121, r.id as u64));
     };
     let new = checks::session_at(t, conn, r);
-    let at = memory::find_start(&*m, t);
-    let taken = checks::is_taken(&*m, t, at);
-    let n = checks::splice_result(&*m, conn, r, new, at, taken);
+    let spot = checks::spot_of(&*m, t);
+    let n = checks::splice_result(&*m, conn, r, new, spot);
     if n == 100 {
-        return accept(&mut *m, new, at, taken, &mut *out);
+        return accept(&mut *m, new, spot, &mut *out);
     }
-    let len = writing::splice_response(&mut *out, conn, n, r.id as u64);
-    Did {
-        consumed: 0,
-        written: len,
-        moved: 0,
-    }
+    Did::unmoved(writing::splice_response(&mut *out, conn, n, r.id as u64))
 }
 
 // The answer to an Abort_Request: 121, or 100, the session's end and its followers' ends. No number is held twice: one search finds it.
@@ -112,12 +101,12 @@ pub fn answer_abort(m: &mut [u64; WORDS], conn: u64, id: u64, out: &mut [u8]) ->
     ensures { Does (answer_abort conn id) 0 m.old out.old result m.new out.new }
 {
     let held = checks::where_held(&*m, conn, id);
-    let Where::In(which, at) = held else {
+    let Some(place) = held else {
         return writing::abort_response(&mut *out, conn, 121, id);
     };
     let len = writing::abort_response(&mut *out, conn, 100, id);
-    match which {
-        Which::Waiting => ends::end_waiting(&mut *m, at, 116, &mut *out, len),
-        Which::Started => ends::end_started(&mut *m, at, 116, &mut *out, len),
+    match place.which {
+        Which::Waiting => ends::end_waiting(&mut *m, place.at, 116, &mut *out, len),
+        Which::Started => ends::end_started(&mut *m, place.at, 116, &mut *out, len),
     }
 }

@@ -6,7 +6,6 @@ use Rattle.rules.specs.declared.Session.{Session}
 use Rattle.memory.specs.Memory.{see}
 use Rattle.answers.proofs.Laws.{air-none, air-some, alive-says}
 use Rattle.memory.proofs.Laws.{quiet_none, quiet-some}
-use borrow.Author.Rules.{rules}
 use Rattle.answers.proofs.answer_alive.Goals as goal
 
 pub returns-then-is_quiet : goal.returns-then-is_quiet

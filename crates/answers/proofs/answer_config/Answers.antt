@@ -2,27 +2,19 @@
 use mathlib.Core.Path.{◌∙◌}
 use native.Mathlib.Omega.{arith}
 use Rattle.answers.proofs.Laws.{stored-length, stored-padded, config-says, kept-short}
-use borrow.Author.Rules.{rules}
 use Rattle.answers.proofs.answer_config.Goals as goal
 
 pub config_response-requires : goal.config_response-requires
 config_response-requires c =
-    let kept = c.kept in
-    let structure = c.structure-hardware in
-    let name = c.name in
-    let b = c.requires.whole.bytes in
-    let h = kept-short b c.args.conn c.requires.conn_bound (structure.ensures ∙ kept.ensures.is) in record {
+    let is = c.structure-hardware.ensures ∙ c.kept.ensures.is in
+    let h = kept-short c.requires.whole.bytes c.args.conn c.requires.conn_bound is in record {
       section_in_bounds = omega (arith, h, c.requires.section_len_bound, c.requires.in_bounds);
       hardware_len_bound = (h, c.requires.section_len_bound);
-      name_len = stored-length b name.ensures;
-      name_value = stored-padded b name.ensures;
+      name_len = stored-length c.requires.whole.bytes c.name.ensures;
+      name_value = stored-padded c.requires.whole.bytes c.name.ensures;
     }
 
 pub returns : goal.returns
 returns c =
-    let kept = c.kept in
-    let structure = c.structure-hardware in
-    let config-response = c.config_response in
-    let name = c.name in
-    config-says c.args.m.now c.args.b.now c.args.conn structure.result.now c.args.section.now name.ensures
-    (structure.ensures ∙ kept.ensures.is) config-response.ensures
+    config-says c.args.m.now c.args.b.now c.args.conn c.structure-hardware.result.now c.args.section.now c.name.ensures
+    (c.structure-hardware.ensures ∙ c.kept.ensures.is) c.config_response.ensures

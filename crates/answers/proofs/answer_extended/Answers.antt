@@ -1,7 +1,6 @@
 -- What was found decides (`extended_none`, `extended-found`).
 use Rattle.memory.specs.Memory.{see}
 use Rattle.answers.proofs.Laws.{extended_none, extended-found}
-use borrow.Author.Rules.{rules}
 use Rattle.answers.proofs.answer_extended.Goals as goal
 
 pub returns-then-e-eq0 : goal.returns-then-e-eq0

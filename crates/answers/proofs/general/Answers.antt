@@ -1,6 +1,5 @@
 -- One record (`tells_first`).
 use Rattle.ends.proofs.Laws.{tells_first}
-use borrow.Author.Rules.{rules}
 use Rattle.answers.proofs.general.Goals as goal
 
 pub returns : goal.returns

@@ -4,7 +4,6 @@ use mathlib.Core.Bool.{not}
 use mathlib.Core.Bool.{true, false}
 use native.Mathlib.Omega.{arith}
 use Rattle.answers.proofs.Laws.{init-revision, init-name}
-use borrow.Author.Rules.{rules}
 use Rattle.answers.proofs.init_result.Goals as goal
 
 pub returns-then-revision-ne2 : goal.returns-then-revision-ne2

@@ -1,7 +1,6 @@
 -- 20, or 10 or more and a sum of 64; the tally has the count and the sum.
 use Rattle.memory.specs.Memory.{see}
-use Rattle.checks.proofs.Laws.{waiting-fits, tally-few, full-twenty, full-few, full-sum}
-use borrow.Author.Rules.{rules}
+use Rattle.checks.proofs.Laws.{waiting-fits, sum-fits, full-twenty, full-few, full-sum}
 use Rattle.checks.proofs.is_full.Goals as goal
 
 pub returns-then-n-eq-MOST_OF_ONE : goal.returns-then-n-eq-MOST_OF_ONE
@@ -15,7 +14,7 @@ returns-then-n-lt-OWN c =
 
 pub raised_sum-requires : goal.raised_sum-requires
 raised_sum-requires c =
-    tally-few (see c.args.m.now).queue.waiting c.tally-t.ensures (waiting-fits c.args.m.now c.requires.form)
+    sum-fits (see c.args.m.now).queue.waiting c.tally-t.ensures (waiting-fits c.args.m.now c.requires.form)
 
 pub returns : goal.returns
 returns c =

@@ -2,7 +2,6 @@
 use mathlib.Core.Path.{ap}
 use native.Mathlib.Omega.{arith}
 use Rattle.checks.proofs.Laws.{session-is}
-use borrow.Author.Rules.{rules}
 use Rattle.checks.proofs.session_at.Goals as goal
 
 pub overflow_add-result : goal.overflow_add-result

@@ -1,7 +1,6 @@
 -- The tests are asked in the order of b to e; the start is known, so that b asks nothing of the prior.
 use Rattle.memory.specs.Memory.{see}
 use Rattle.checks.proofs.Laws.{result-121, result-112, result-109, result-114, result-100}
-use borrow.Author.Rules.{rules}
 use Rattle.checks.proofs.splice_result.Goals as goal
 
 pub returns-then-is_wrong_number : goal.returns-then-is_wrong_number

@@ -1,7 +1,6 @@
 -- The waiting first, then the started: what each search finds is compared with how many there are.
 use Rattle.memory.specs.Memory.{see}
 use Rattle.checks.proofs.Laws.{found-waiting, found-started, found_nowhere}
-use borrow.Author.Rules.{rules}
 use Rattle.checks.proofs.where_held.Goals as goal
 
 pub returns-then-i-count : goal.returns-then-i-count

@@ -1,7 +1,6 @@
 -- The one on air, then the covered, then those that wait (`closed`).
 -- Rests on what `end_on_air_of`, `end_covered_of` and `end_waiting_of` promise.
 use native.Mathlib.Omega.{arith}
-use borrow.Author.Rules.{rules}
 use Rattle.ends.proofs.Laws.{cover-room, cover-playable, wait-room, closed}
 use Rattle.ends.proofs.end_all_of.Goals as goal
 

@@ -1,15 +1,13 @@
 use native.Mathlib.Omega.{arith}
-use borrow.Author.Rules.{rules}
 use mathlib.Core.Path.{sym, ◌∙◌}
-use Prim.Native.Nat.{◌-◌, ◌<◌}
+use Prim.Native.Nat.{◌<◌}
 use borrow.Author.Tests.{eq-eqb, ne_eqb}
 use lib.ListN.{length}
 use Rattle.rules.specs.declared.Ending.TheVariants.{Response}
-use Rattle.rules.specs.State.{of}
 use Rattle.memory.specs.declared.Which.TheVariants.{Started}
 use Rattle.memory.specs.Memory.{see}
 use Rattle.ends.proofs.Laws.{one_less}
-use Rattle.ends.proofs.Closing.{Leaving, leaving-none, leaving-goes, leaving-stays, leaving-theirs, closing-room}
+use Rattle.ends.proofs.Closing.{leaving-none, leaving-goes, leaving-stays, leaving-theirs, closing-room}
 use Rattle.ends.proofs.end_covered_of.Goals as goal
 
 pub loop-i-init : goal.loop-i-init

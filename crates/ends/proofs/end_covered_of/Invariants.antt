@@ -1,17 +1,11 @@
 -- One turn of `Leaving`: the session at the place i goes with its end written, or stays and is passed; those not passed get fewer.
 -- Rests on what `end_one_started` and memory promise.
-use native.Mathlib.Omega.{arith}
-use borrow.Author.Rules.{rules}
-use mathlib.Core.Path.{sym, ◌∙◌}
-use Prim.Native.Nat.{◌-◌, ◌<◌}
-use borrow.Author.Tests.{eq-eqb, ne_eqb}
+use Prim.Native.Nat.{◌-◌}
 use lib.ListN.{length}
 use Rattle.rules.specs.declared.Ending.TheVariants.{Response}
 use Rattle.rules.specs.State.{of}
-use Rattle.memory.specs.declared.Which.TheVariants.{Started}
 use Rattle.memory.specs.Memory.{see}
-use Rattle.ends.proofs.Laws.{one_less}
-use Rattle.ends.proofs.Closing.{Leaving, leaving-none, leaving-goes, leaving-stays, leaving-theirs, closing-room}
+use Rattle.ends.proofs.Closing.{Leaving}
 use Rattle.ends.proofs.end_covered_of.Given as goal
 
 abbrev pub invariant-loop-i : goal.invariant-loop-i

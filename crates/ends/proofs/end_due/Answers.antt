@@ -1,18 +1,16 @@
 use native.Mathlib.Omega.{arith}
-use borrow.Author.Rules.{rules}
 use mathlib.Core.Path.{sym, ap, ◌∙◌}
-use Prim.Native.Nat.{◌-◌, ◌<◌}
+use Prim.Native.Nat.{◌<◌}
 use borrow.Author.Tests.{eq-eqb, ne_eqb}
 use lib.ListN.{length}
 use Rattle.rules.specs.declared.Ninths.{Ninths}
-use Rattle.rules.specs.declared.Ending.TheVariants.{Complete}
-use Rattle.rules.specs.State.{empty, ends_at}
+use Rattle.rules.specs.State.{empty}
 use Rattle.rules.proofs.Every.{all_get_d}
 use Rattle.memory.specs.declared.Which.TheVariants.{Started}
 use Rattle.memory.specs.Memory.{see}
 use Rattle.ends.specs.Does.{Playable}
 use Rattle.ends.proofs.Laws.{writable, one_less}
-use Rattle.ends.proofs.Closing.{Leaving, leaving-none, leaving-goes, leaving-stays, leaving-done, closing-room}
+use Rattle.ends.proofs.Closing.{leaving-none, leaving-goes, leaving-stays, leaving-done, closing-room}
 use Rattle.ends.proofs.end_due.Goals as goal
 
 pub loop-i-init : goal.loop-i-init

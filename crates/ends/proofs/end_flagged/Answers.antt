@@ -1,10 +1,8 @@
 use native.Mathlib.Omega.{arith}
-use borrow.Author.Rules.{rules}
 use borrow.Author.Tests.{eq-eqb, ne_eqb}
 use mathlib.Core.Path.{◌≡◌, sym, ap, subst, ◌∙◌}
 use mathlib.Core.Bool.{true}
 use lib.Dec.{eqb}
-use mathlib.Core.Logic.{⊎_elim}
 use Prim.Native.Nat.{ℕ, ◌+◌, ◌-◌, ◌≤◌, ◌<◌}
 use lib.ListN.{length, drop, get_or}
 use mathlib.Core.List.{List}
@@ -17,7 +15,6 @@ use Rattle.places.proofs.Laws.{flag_at}
 use Rattle.ends.proofs.Followers.{few-places}
 use Rattle.memory.specs.declared.Which.TheVariants.{Waiting}
 use Rattle.memory.specs.Memory.{see, sessions, list_of, relisted, Now}
-use Rattle.memory.proofs.Laws.{sessions-list}
 use Rattle.ends.proofs.Closing.{Theirs, theirs-none, theirs-goes, theirs-stays, theirs-by, theirs-list, theirs-left, theirs-done}
 use Rattle.ends.proofs.Closing.{closing-room}
 use Rattle.ends.proofs.end_flagged.Goals as goal

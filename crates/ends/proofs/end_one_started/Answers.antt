@@ -1,6 +1,5 @@
 -- The session is read, taken out, and its end kept and written (`one_ended_lem`).
 -- Rests on what `write_end` and memory promise.
-use borrow.Author.Rules.{rules}
 use mathlib.Core.Path.{sym, subst}
 use Rattle.memory.specs.declared.Which.TheVariants.{Started}
 use Rattle.ends.specs.Does.{Writable}

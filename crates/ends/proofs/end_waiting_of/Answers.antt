@@ -1,9 +1,7 @@
 use native.Mathlib.Omega.{arith}
-use borrow.Author.Rules.{rules}
 use borrow.Author.Tests.{eq-eqb, ne_eqb}
 use mathlib.Core.Path.{sym, ap, ◌∙◌}
-use mathlib.Core.Logic.{⊎_elim}
-use Prim.Native.Nat.{◌-◌, ◌≤◌, ◌<◌}
+use Prim.Native.Nat.{◌≤◌, ◌<◌}
 use lib.ListN.{length, get_or}
 use mathlib.Core.List.{List}
 use Rattle.rules.specs.declared.Session.{Session}
@@ -12,7 +10,7 @@ use Rattle.rules.specs.State.{empty, of}
 use Rattle.memory.specs.declared.Which.TheVariants.{Waiting}
 use Rattle.memory.specs.Memory.{see, sessions, list_of}
 use Rattle.memory.proofs.Laws.{sessions-list}
-use Rattle.ends.proofs.Closing.{Theirs, theirs-none, theirs-goes, theirs-stays, theirs-list, theirs-left, theirs-done, theirs-spared}
+use Rattle.ends.proofs.Closing.{theirs-none, theirs-goes, theirs-stays, theirs-list, theirs-left, theirs-done, theirs-spared}
 use Rattle.ends.proofs.Closing.{closing-room}
 use Rattle.ends.proofs.end_waiting_of.Goals as goal
 use Rattle.ends.proofs.end_waiting_of.Goals.{then-conn-x, else-conn-x}

@@ -3,7 +3,6 @@
 use native.Mathlib.Omega.{arith}
 use mathlib.Core.Path.{ap}
 use lib.ListN.{length}
-use borrow.Author.Rules.{rules}
 use Rattle.rules.specs.declared.Ending.TheVariants.{Failed}
 use Rattle.memory.specs.Memory.{Memory}
 use Rattle.ends.proofs.Laws.{told-one, fails}

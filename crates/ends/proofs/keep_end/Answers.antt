@@ -1,6 +1,5 @@
 -- Its result and its time on air are found, and memory remembers it (`kept-as`).
 -- Rests on what `result_of`, units and memory promise.
-use borrow.Author.Rules.{rules}
 use Rattle.ends.proofs.Laws.{kept-as}
 use Rattle.ends.proofs.keep_end.Goals as goal
 

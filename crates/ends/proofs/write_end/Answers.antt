@@ -1,7 +1,6 @@
 -- It is kept, and a SpliceComplete (`write_complete`), or a Splice_Response written behind the last record (`tells-part`).
 -- Rests on what `keep_end`, `write_complete` and writing promise.
 use native.Mathlib.Omega.{arith}
-use borrow.Author.Rules.{rules}
 use Rattle.ends.proofs.Laws.{completing, tells-part, end-done}
 use Rattle.ends.proofs.write_end.Goals as goal
 

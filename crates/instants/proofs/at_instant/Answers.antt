@@ -1,7 +1,6 @@
 -- The ends and the start, one after the other (`instant-turns`).
 use native.Mathlib.Omega.{arith}
 use Rattle.instants.proofs.Starts.{instant-room, instant-meets, instant-placed, instant-playable, instant-turns}
-use borrow.Author.Rules.{rules}
 use Rattle.instants.proofs.at_instant.Goals as goal
 
 pub end_due-to-requires : goal.end_due-to-requires

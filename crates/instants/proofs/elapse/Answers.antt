@@ -1,13 +1,11 @@
 -- Only the first of the started is on air (`elapsed-some`), and it has room for more (`first-lasting`); with none it is the primary channel
 -- (`elapsed-none`).
-use mathlib.Core.Path.{sym, ◌∙◌}
+use mathlib.Core.Path.{sym}
 use Prim.Native.Nat.{◌<◌}
-use native.Mathlib.Omega.{arith}
 use lib.ListN.{length}
 use Rattle.memory.specs.Memory.{see}
 use Rattle.instants.proofs.Starts.{elapsed-none, elapsed-some, first-lasting}
 use Rattle.memory.proofs.Laws.{quiet_none, quiet-some}
-use borrow.Author.Rules.{rules}
 use Rattle.instants.proofs.elapse.Goals as goal
 
 pub returns-then-is_quiet : goal.returns-then-is_quiet

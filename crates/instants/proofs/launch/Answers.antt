@@ -4,10 +4,8 @@ use mathlib.Core.Path.{sym, ◌∙◌}
 use native.Mathlib.Omega.{arith}
 use Rattle.rules.specs.Records.{SpliceComplete}
 use Rattle.rules.proofs.Records.{length-record}
-use Rattle.memory.specs.Memory.{see}
 use Rattle.ends.proofs.Laws.{tells-part}
 use Rattle.instants.proofs.Starts.{on-placed, on_room, launched-on, launched-off}
-use borrow.Author.Rules.{rules}
 use Rattle.instants.proofs.launch.Goals as goal
 
 pub oust-to-requires : goal.oust-to-requires

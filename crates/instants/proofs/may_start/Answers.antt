@@ -1,11 +1,9 @@
 -- Nothing is on air, or the first of the started (`may-over`).
 use mathlib.Core.Path.{refl, sym, ◌∙◌}
-use native.Mathlib.Omega.{arith}
 use borrow.Author.Tests.{eq-eqb, ne_eqb}
 use Rattle.memory.specs.Memory.{see}
 use Rattle.instants.proofs.Starts.{may_none, may-over}
 use Rattle.memory.proofs.Laws.{quiet_none, quiet-some}
-use borrow.Author.Rules.{rules}
 use Rattle.instants.proofs.may_start.Goals as goal
 
 pub returns-then-is_quiet : goal.returns-then-is_quiet

@@ -1,12 +1,10 @@
 -- Nothing is on air, or the first of the started, which has the AccessType (`ousted-equal`) or another (`ousted-other`).
-use mathlib.Core.Path.{sym, ◌∙◌}
+use mathlib.Core.Path.{sym}
 use Prim.Native.Nat.{◌<◌}
-use native.Mathlib.Omega.{arith}
 use lib.ListN.{length}
 use Rattle.memory.specs.Memory.{see}
 use Rattle.instants.proofs.Starts.{ousted-none, ousted-other, ousted-equal}
 use Rattle.memory.proofs.Laws.{quiet_none, quiet-some}
-use borrow.Author.Rules.{rules}
 use Rattle.instants.proofs.oust.Goals as goal
 
 pub returns-then-is_quiet : goal.returns-then-is_quiet

@@ -1,13 +1,8 @@
 -- Before the loop it is `Running` (`first-turn`); the loop's invariant is `Onward`: the next instant has come.
 -- What is still to come falls at each instant (`arrived-less`).
-use mathlib.Core.Path.{sym, ◌∙◌}
-use native.Mathlib.Omega.{arith}
 use Rattle.rules.specs.State.{to_come}
 use Rattle.memory.specs.Memory.{see}
-use Rattle.instants.proofs.Running.{Onward, first-turn, last_turn, turn-asks, turn-time, turn-after}
-use Rattle.instants.proofs.Running.{turn-meets, turn-placed, turn-playable, turn-room, arrived, arrived-on, arrived-next}
-use Rattle.instants.proofs.Running.{arrived-less}
-use borrow.Author.Rules.{rules}
+use Rattle.instants.proofs.Running.{Onward}
 use Rattle.instants.proofs.run.Given as goal
 
 abbrev pub invariant-loop-next : goal.invariant-loop-next

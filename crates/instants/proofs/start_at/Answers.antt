@@ -5,7 +5,6 @@ use native.Mathlib.Omega.{arith}
 use lib.ListN.{length}
 use Rattle.memory.specs.Memory.{see}
 use Rattle.instants.proofs.Starts.{start_none, start-later, start-room, start-playable, start-ordered, start-placed, start-turns}
-use borrow.Author.Rules.{rules}
 use Rattle.instants.proofs.start_at.Goals as goal
 
 pub returns-then-count-eq0 : goal.returns-then-count-eq0

@@ -2,7 +2,6 @@
 use mathlib.Core.Path.{◌∙◌}
 use Rattle.rules.proofs.Tick.{due-of}
 use Rattle.memory.specs.Memory.{see}
-use borrow.Author.Rules.{rules}
 use Rattle.instants.proofs.upcoming.Goals as goal
 
 pub returns : goal.returns

@@ -4,7 +4,6 @@ use Prim.Native.Nat.{◌≤◌}
 use native.Mathlib.Omega.{arith}
 use lib.ListN.{length}
 use Rattle.requests.proofs.Laws.{way-lean, way-within, accept-turns}
-use borrow.Author.Rules.{rules}
 use Rattle.requests.proofs.accept.Goals as goal
 
 pub make_way-way-requires : goal.make_way-way-requires
@@ -48,5 +47,6 @@ returns c =
     let w = c.make_way-way.ensures in
     let room : c.make_way-way.result.len ≤ length c.args.out.now =
     omega (arith, way-lean w, c.requires.m_len_bound, c.requires.in_bounds) in
-    accept-turns c.args.new w c.requires.holding.timed.sorted c.accept-moved.ensures.shows c.accept-moved.ensures.moves
-    c.make_way-way.auto.out room c.splice_response.ensures
+    rw c.unmoved.ensures
+    (accept-turns c.args.new w c.requires.holding.timed.sorted c.accept-moved.ensures.shows c.accept-moved.ensures.moves
+    c.make_way-way.auto.out room c.splice_response.ensures)

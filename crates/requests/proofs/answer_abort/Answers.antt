@@ -12,7 +12,6 @@ use Rattle.ends.proofs.Laws.{playable}
 use Rattle.ends.proofs.Followers.{ordered-now}
 use Rattle.checks.proofs.Laws.{held-nowhere}
 use Rattle.requests.proofs.Laws.{found_in, abort-unknown, abort-waiting, abort-started}
-use borrow.Author.Rules.{rules}
 use Rattle.requests.proofs.answer_abort.Goals as goal
 
 pub returns-in_default : goal.returns-in_default
@@ -25,7 +24,7 @@ pub end_waiting-requires : goal.end_waiting-requires
 end_waiting-requires c =
     let m = c.args.m.now in
     let e = c.where_held-held.ensures in
-    let h = found_in c.args.conn c.args.id (see m).queue e c.in-In.is c.in-Waiting.is in
+    let h = found_in c.args.conn c.args.id (see m).queue e c.in-Some.is c.in-Waiting.is in
     let k = length-record (AbortResponse c.args.conn 100 c.args.id) tt in record {
       form = c.requires.form;
       at_in_bounds = omega (arith, h.within);
@@ -44,7 +43,7 @@ pub end_started-requires : goal.end_started-requires
 end_started-requires c =
     let m = c.args.m.now in
     let e = c.where_held-held.ensures in
-    let h = found_in c.args.conn c.args.id (see m).queue e c.in-In.is c.in-Started.is in
+    let h = found_in c.args.conn c.args.id (see m).queue e c.in-Some.is c.in-Started.is in
     let p = playable Started m c.requires.holding in
     let k = length-record (AbortResponse c.args.conn 100 c.args.id) tt in record {
       form = c.requires.form;
@@ -65,7 +64,7 @@ pub returns-in-Waiting : goal.returns-in-Waiting
 returns-in-Waiting c =
     let m = c.args.m.now in
     let e = c.where_held-held.ensures in
-    let h = found_in c.args.conn c.args.id (see m).queue e c.in-In.is c.in-Waiting.is in
+    let h = found_in c.args.conn c.args.id (see m).queue e c.in-Some.is c.in-Waiting.is in
     abort-waiting c.args.conn c.args.id c.requires.form c.requires.holding
     c.abort_response-len.ensures h c.end_waiting.ensures
 
@@ -73,6 +72,6 @@ pub returns-in-Started : goal.returns-in-Started
 returns-in-Started c =
     let m = c.args.m.now in
     let e = c.where_held-held.ensures in
-    let h = found_in c.args.conn c.args.id (see m).queue e c.in-In.is c.in-Started.is in
+    let h = found_in c.args.conn c.args.id (see m).queue e c.in-Some.is c.in-Started.is in
     abort-started c.args.conn c.args.id c.requires.form c.requires.holding
     c.abort_response-len.ensures h c.end_started.ensures

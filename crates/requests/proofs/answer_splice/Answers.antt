@@ -5,37 +5,32 @@ use native.Mathlib.Omega.{arith}
 use Rattle.memory.specs.Memory.{see}
 use Rattle.requests.proofs.Laws.{start_fits, asks, asks-taken, storable, room-waiting, splice-accepted, splice-refused}
 use Rattle.requests.proofs.Laws.{splice-unknown}
-use borrow.Author.Rules.{rules}
 use Rattle.requests.proofs.answer_splice.Goals as goal
 
 pub returns-in_default : goal.returns-in_default
 returns-in_default c =
-    let no = sym c.start_of-when.ensures ∙ c.in_default.is in
-    splice-unknown c.args.conn c.args.r c.args.m.now no c.requires.form c.splice_response-len.ensures
+    let no = sym c.start_of-start.ensures ∙ c.in_default.is in
+    rw c.unmoved.ensures (splice-unknown c.args.conn c.args.r c.args.m.now no c.requires.form c.splice_response.ensures)
 
 pub session_at-new-requires : goal.session_at-new-requires
 session_at-new-requires c =
     let m = see c.args.m.now in
-    let yes = sym c.start_of-when.ensures ∙ c.in-At.is in
+    let yes = sym c.start_of-start.ensures ∙ c.in-Some.is in
     let a = c.requires.asked in
     let early = start_fits c.args.conn m.clock c.args.r.start m.queue a.start c.requires.holding c.requires.m_bound yes in
     omega arith
 
-pub find_start-at-requires : goal.find_start-at-requires
-find_start-at-requires c =
+pub spot_of-spot-requires : goal.spot_of-spot-requires
+spot_of-spot-requires c =
     record { form = c.requires.form; sorted = c.requires.holding.timed.sorted }
-
-pub is_taken-taken-requires : goal.is_taken-taken-requires
-is_taken-taken-requires c =
-    record { form = c.requires.form; sorted = c.requires.holding.timed.sorted; at_value = c.find_start-at.ensures }
 
 pub splice_result-n-requires : goal.splice_result-n-requires
 splice_result-n-requires c =
     let m = c.args.m.now in
-    let yes = sym c.start_of-when.ensures ∙ c.in-At.is in
-    let a = asks c.args.conn c.args.r (see m).queue yes c.session_at-new.ensures c.find_start-at.ensures in
-    let b = asks-taken c.args.conn c.args.r (see m).queue.waiting c.in-At.t c.session_at-new.ensures
-    c.is_taken-taken.ensures in
+    let yes = sym c.start_of-start.ensures ∙ c.in-Some.is in
+    let a = asks c.args.conn c.args.r (see m).queue yes c.session_at-new.ensures c.spot_of-spot.ensures.at in
+    let b = asks-taken c.args.conn c.args.r (see m).queue.waiting c.in-Some.t c.session_at-new.ensures
+    c.spot_of-spot.ensures.taken in
     record {
       form = c.requires.form;
       holding = c.requires.holding;
@@ -51,14 +46,14 @@ splice_result-n-requires c =
 pub accept-requires : goal.accept-requires
 accept-requires c =
     let m = c.args.m.now in
-    let yes = sym c.start_of-when.ensures ∙ c.in-At.is in
-    let a = asks c.args.conn c.args.r (see m).queue yes c.session_at-new.ensures c.find_start-at.ensures in
+    let yes = sym c.start_of-start.ensures ∙ c.in-Some.is in
+    let a = asks c.args.conn c.args.r (see m).queue yes c.session_at-new.ensures c.spot_of-spot.ensures.at in
     let low = c.requires.conn_bound in
     let n = c.splice_result-n.ensures in
     let room = room-waiting c.args.conn c.args.r m a.is n c.if-n-eq100.true low c.requires.form c.requires.holding in
     let fit = storable c.args.conn c.args.r m a.is n low c.requires.asked in
-    let b = asks-taken c.args.conn c.args.r (see m).queue.waiting c.in-At.t c.session_at-new.ensures
-    c.is_taken-taken.ensures in
+    let b = asks-taken c.args.conn c.args.r (see m).queue.waiting c.in-Some.t c.session_at-new.ensures
+    c.spot_of-spot.ensures.taken in
     record {
       form = c.requires.form;
       holding = c.requires.holding;
@@ -72,18 +67,19 @@ accept-requires c =
 pub returns-then-n-eq100 : goal.returns-then-n-eq100
 returns-then-n-eq100 c =
     let m = c.args.m.now in
-    let yes = sym c.start_of-when.ensures ∙ c.in-At.is in
-    let a = asks c.args.conn c.args.r (see m).queue yes c.session_at-new.ensures c.find_start-at.ensures in
+    let yes = sym c.start_of-start.ensures ∙ c.in-Some.is in
+    let a = asks c.args.conn c.args.r (see m).queue yes c.session_at-new.ensures c.spot_of-spot.ensures.at in
     splice-accepted c.args.conn c.args.r m a.is c.splice_result-n.ensures c.if-n-eq100.true c.accept.ensures
 
-pub splice_response-len-requires-2 : goal.splice_response-len-requires-2
-splice_response-len-requires-2 c =
+pub splice_response-requires-2 : goal.splice_response-requires-2
+splice_response-requires-2 c =
     omega (arith, c.requires.in_bounds)
 
 pub returns : goal.returns
 returns c =
     let m = c.args.m.now in
-    let yes = sym c.start_of-when.ensures ∙ c.in-At.is in
-    let a = asks c.args.conn c.args.r (see m).queue yes c.session_at-new.ensures c.find_start-at.ensures in
-    splice-refused c.args.conn c.args.r m a.is c.splice_result-n.ensures c.if-n-eq100.false c.requires.form
-    c.splice_response-len-2.ensures
+    let yes = sym c.start_of-start.ensures ∙ c.in-Some.is in
+    let a = asks c.args.conn c.args.r (see m).queue yes c.session_at-new.ensures c.spot_of-spot.ensures.at in
+    rw c.unmoved-2.ensures
+    (splice-refused c.args.conn c.args.r m a.is c.splice_result-n.ensures c.if-n-eq100.false c.requires.form
+    c.splice_response-2.ensures)

@@ -4,12 +4,11 @@ use native.Mathlib.Omega.{arith}
 use Rattle.rules.proofs.Sound.{few-wait}
 use Rattle.ends.proofs.Followers.{ordered-now}
 use Rattle.requests.proofs.Laws.{way-free, way-taken, way-over, way-sorted}
-use borrow.Author.Rules.{rules}
 use Rattle.requests.proofs.make_way.Goals as goal
 
 pub end_waiting-to-requires : goal.end_waiting-to-requires
 end_waiting-to-requires c =
-    let i = way-taken c.args.t.0 c.args.m.now c.requires.at_value c.requires.taken_value c.if-taken.true c.requires.holding in
+    let i = way-taken c.args.t.0 c.args.m.now c.requires.at_value c.requires.taken_value c.if-spot.true c.requires.holding in
     record {
       form = c.requires.form;
       at_in_bounds = omega (arith, i);
@@ -21,15 +20,15 @@ end_waiting-to-requires c =
 pub find_start-i-requires : goal.find_start-i-requires
 find_start-i-requires c =
     let d = c.end_waiting-to.ensures in
-    let sorted = way-sorted c.args.t.0 c.args.m.now c.requires.at_value c.requires.taken_value c.if-taken.true c.requires.holding
+    let sorted = way-sorted c.args.t.0 c.args.m.now c.requires.at_value c.requires.taken_value c.if-spot.true c.requires.holding
     d in
     record { form = d.shows.form; sorted = sorted }
 
-pub returns-then-taken : goal.returns-then-taken
-returns-then-taken c =
-    way-over c.args.t.0 c.args.m.now c.requires.at_value c.requires.taken_value c.if-taken.true c.requires.holding
+pub returns-then-spot : goal.returns-then-spot
+returns-then-spot c =
+    way-over c.args.t.0 c.args.m.now c.requires.at_value c.requires.taken_value c.if-spot.true c.requires.holding
     c.end_waiting-to.ensures c.find_start-i.ensures
 
 pub returns : goal.returns
 returns c =
-    way-free c.args.t.0 c.args.m.now c.requires.at_value c.requires.taken_value c.if-taken.false c.requires.form
+    way-free c.args.t.0 c.args.m.now c.requires.at_value c.requires.taken_value c.if-spot.false c.requires.form
