@@ -8,9 +8,8 @@ use lib.ListN.{get_or}
 use Rattle.rules.specs.HouseNumbers.{Called}
 use Rattle.rules.specs.Calls.{Call, call}
 use Rattle.memory.specs.Memory.{see, shown}
-use Rattle.engine.specs.declared.Answer.{Answer}
-use Rattle.engine.specs.declared.Answer.TheVariants.{Refused, Done}
-use Rattle.engine.specs.Lent.{Lent, answer_of}
+use Rattle.std.specs.Prelude.{Ok, Err}
+use Rattle.engine.specs.Lent.{Lent, Answer, answer_of}
 use Rattle.engine.proofs.Laws.{answers-same}
 use Rattle.engine.proofs.Laws as engine
 use Rattle.door.specs.Door.{reply_of, Replies}
@@ -34,7 +33,7 @@ unfolding reply_of
 refused-unchanged k m b e r v c o l x f = by x.answer refl
   where
     by : (a : Answer) → x.answer ≡ a → (v ≡ m) × (c ≡ b) × (o ≡ e)
-    by (Refused n) y = engine.refused-unchanged k n m b e x.answer v c o l x.answers y
-    by (Done did) y =
+    by (Err n) y = engine.refused-unchanged k n m b e x.answer v c o l x.answers y
+    by (Ok did) y =
         let t : get_or r 0 0 ≡ 0 = ap (λ z. get_or z 0 0) (x.reply ∙ ap reply_of y) in
         absurd (omega arith)

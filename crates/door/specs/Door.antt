@@ -1,5 +1,5 @@
 -- The reply to C, what a call of the door promises, and what C hands in and sees.
-use Rattle.std.specs.Prelude.{◌≡◌, List, [], ◌∷◌, ℕ, ◌+◌, ◌*◌, ◌<◌, length, get_or}
+use Rattle.std.specs.Prelude.{◌≡◌, List, [], ℕ, ◌+◌, ◌*◌, ◌<◌, length, get_or}
 use Rattle.rules.specs.Lists.{All}
 use Rattle.rules.specs.Follows.Wires.{Byte}
 use Rattle.rules.specs.State.{Splicer}
@@ -7,7 +7,7 @@ use Rattle.rules.specs.HouseNumbers.{Called, lending_maps}
 use Rattle.rules.specs.Calls.{Call, opens, closes, messages, ticks, cues, cue_call, call}
 use Rattle.memory.specs.Memory.{see, shown}
 use Rattle.relay.specs.declared.Anchor.{Anchor}
-use Rattle.engine.specs.declared.Answer.{Answer}
+use Rattle.engine.specs.Lent.{Answer}
 use Rattle.engine.specs.Lent.{Answers}
 unfoldable pub use Rattle.engine.specs.Lent.{reply_of}
 

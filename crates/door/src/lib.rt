@@ -108,8 +108,7 @@ pub fn splicer_7_primary(words: &[u64; WORDS], bytes: &[u8; BYTES]) -> u64
     requires { Lent words.now bytes.now }
     ensures { Primary words.now bytes.now result }
 {
-    let sum = engine::primary(words, bytes);
-    sum.0
+    engine::primary(words, bytes).0
 }
 
 // 02, CR 1: the list of a request that names its PIDs itself, from PcrPID on, into lent words and bytes. The bytes taken, or 0: then all
@@ -135,9 +134,9 @@ pub fn splicer_7_mux(words: &[u64; WORDS], bytes: &[u8; BYTES]) -> u64
     engine::mux(words, bytes)
 }
 
-// What is given with a section. Of a slice, since only of a slice is it known that its elements have 32 bits.
-fn anchor_of(given: &[u32]) -> Anchor
-    requires { length given.now ≡ 4 }
+// What is given with a section.
+// No From: Anchor is of relay, and an array is nobody's.
+fn anchor_of(given: &[u32; 4]) -> Anchor
     ensures { result ≡ anchor_of given.now }
 {
     Anchor {
@@ -171,12 +170,8 @@ pub fn splicer_7_cue(
 pub fn splicer_7_ended(ended: &[u64], page: &mut [Row]) -> u64
     ensures { Pages ended.now page.old result page.new }
 {
-    let n = rows::to_fill(page.len());
-    let mut i = 0;
-    while i < n {
-        let r = rows::row_at(ended, i);
-        page[i] = r;
-        i += 1;
+    for i in 0..rows::to_fill(page.len()) {
+        page[i] = rows::row_at(ended, i);
     }
     rows::page_number(page.len())
 }
@@ -212,7 +207,7 @@ pub fn splicer_7_air(words: &[u64; WORDS], bytes: &[u8; BYTES], air: &mut [u64; 
     requires { Lent words.now bytes.now }
     ensures { ReadsAir words.now bytes.now air.new }
 {
-    // zeros first: with nobody on air that is all
+    // zeros first: with nobody on air that is all. One assignment for both cases takes 21 instructions then, where 20 are allowed
     *air = [0; 9];
     if engine::on_air(words, bytes) == 0 {
         return;

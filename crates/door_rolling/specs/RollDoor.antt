@@ -5,7 +5,7 @@ use Rattle.rules.specs.Calls.{call}
 use Rattle.rules.specs.Rolling.{Rolling, Rolled, instant_call, RollingCall, known, instants, readings, roll}
 use Rattle.rules.specs.Follows.Sequences.{Timeless}
 use Rattle.memory.specs.Memory.{see, shown}
-use Rattle.engine.specs.declared.Answer.{Answer}
+use Rattle.engine.specs.Lent.{Answer}
 use Rattle.rolling.specs.LentRolling.{rolling, Rolls}
 use Rattle.door.specs.Door.{reply_of, Replies, Input, Typed, call_of, buffer_of}
 

@@ -16,10 +16,9 @@ use Rattle.rules.specs.Follows.Sound.{Reached}
 use Rattle.rules.proofs.Written.{written_none}
 use Rattle.rules.proofs.Sound.{reached-fresh}
 use Rattle.memory.specs.Memory.{Memory, Now, nothing_shown, shifted, Named, shown}
-use Rattle.engine.specs.declared.Answer.{Answer}
-use Rattle.engine.specs.declared.Answer.TheVariants.{Refused, Done}
+use Rattle.std.specs.Prelude.{Ok, Err}
 use Rattle.answers.specs.Gives.{unmoved}
-use Rattle.engine.specs.Lent.{answer_of, Answers}
+use Rattle.engine.specs.Lent.{Answer, answer_of, Answers}
 
 begun : (m b n : List ℕ) → Now m nothing_shown → Named b n → shown m b ≡ named n
 unfolding named
@@ -52,10 +51,10 @@ module _ (name : List ℕ) {m b : List ℕ} (long : length name ≡ 32) (bytes :
         buffer = o;
       }
 
-  pub fresh-good : Named b (name_in name) → has_zero name ≡ true → Answers (fresh name) 0 [] (Done (unmoved 0)) m b []
+  pub fresh-good : Named b (name_in name) → has_zero name ≡ true → Answers (fresh name) 0 [] (Ok (unmoved 0)) m b []
   unfolding fresh answer_of buffer_after written_by output
-  fresh-good kept z = fresh-as (name_in name) (Done (unmoved 0)) kept (rw z) (rw z) (rw z) (rw z (sym (written_none [] 0)))
+  fresh-good kept z = fresh-as (name_in name) (Ok (unmoved 0)) kept (rw z) (rw z) (rw z) (rw z (sym (written_none [] 0)))
 
-  pub fresh-bad : Named b [] → has_zero name ≡ false → Answers (fresh name) 0 [] (Refused BadName) m b []
+  pub fresh-bad : Named b [] → has_zero name ≡ false → Answers (fresh name) 0 [] (Err BadName) m b []
   unfolding fresh answer_of buffer_after written_by
-  fresh-bad kept z = fresh-as [] (Refused BadName) kept (rw z) (rw z) (rw z) (rw z (sym (written_none [] 0)))
+  fresh-bad kept z = fresh-as [] (Err BadName) kept (rw z) (rw z) (rw z) (rw z (sym (written_none [] 0)))

@@ -3,27 +3,24 @@
 use mathlib.Core.Path.{◌≡◌, refl, sym, ap, ap₂, subst, ◌∙◌}
 use mathlib.Core.Bool.{Bool, true, false, cond, not}
 use mathlib.Core.List.{List, [], ◌∷◌}
-use mathlib.Core.Logic.{inl, inr}
 use Prim.Native.Nat.{ℕ, ◌+◌, ◌≤◌, ◌<◌}
 use native.Mathlib.Omega.{arith}
-use lib.Dec.{eqb, ltb}
+use lib.Dec.{ltb}
 use lib.ListN.{length, get_or, set}
-use borrow.Author.Tests.{lt-ltb, le-ltb, ltb-false, ne_eqb}
-use types.Run.{OneOf}
-use denote.Enum.Declared.{tag_of}
-use Rattle.rules.specs.contracts.Link.{the_type}
+use borrow.Author.Tests.{lt-ltb, le-ltb, ltb-true, ltb-false}
 use Rattle.rules.specs.declared.Ninths.{Ninths}
+use Rattle.rules.specs.contracts.Link.{the_type}
+use denote.Enum.Bare.{sameb}
 use Rattle.rules.specs.declared.Link.{Link}
 use Rattle.rules.specs.declared.Link.TheVariants.{Closed, Opened, Initialised}
 use Rattle.rules.specs.declared.Refusal.{Refusal}
 use Rattle.rules.specs.declared.Refusal.TheVariants.{NoConnection, NoRoom, ClockBack, AlreadyOpen, NotOpen, BadMicros, LongSection}
 use Rattle.rules.specs.declared.Refusal.TheVariants.{BadSection}
-use Rattle.rules.specs.declared.Framing.{Framing}
-use Rattle.rules.specs.declared.Framing.TheVariants.{Framed, Unframed}
+use Rattle.rules.specs.declared.Header.{Header}
 use Rattle.rules.specs.Lists.{All}
 use Rattle.rules.specs.Follows.Wires.{Byte}
 use Rattle.rules.specs.Bytes.{data_of}
-use Rattle.rules.specs.Units.{time_of, from_micros}
+use Rattle.rules.specs.Units.{bad_micros, time_of, from_micros}
 use Rattle.rules.specs.declared.Session.{Session}
 use Rattle.rules.specs.State.{Queue, Splicer, no_hardware, is_open, link_of, to_come, with_link}
 use Rattle.rules.specs.Records.{output}
@@ -46,17 +43,14 @@ use Rattle.ends.specs.Does.{room_for, Tells, Turns}
 use Rattle.instants.specs.Runs.{Ticked}
 use Rattle.reply.specs.declared.Did.{Did}
 use Rattle.answers.specs.Gives.{Gives, unmoved}
-use Rattle.engine.specs.declared.Answer.{Answer}
-use Rattle.engine.specs.declared.Answer.TheVariants.{Refused, Done}
-use Rattle.engine.specs.declared.Tested.{Tested}
-use Rattle.engine.specs.declared.Tested.TheVariants.{Good, Bad}
-use Rattle.engine.specs.Lent.{Lent, answer_of, Answers, open_test}
+use Rattle.std.specs.Prelude.{Result, Ok, Err}
+use Rattle.engine.specs.Lent.{Lent, Answer, Tested, answer_of, Answers, room_test, micros_test, open_test}
 
 -- ## A refusal, and a call that is done
 
 -- "A refusal .. writes nothing .. and changes no state"
 pub refused_as : {m b e : List ℕ} (c : Called) (n : Refusal) → Lent m b → c ≡ refuse n (shown m b)
-    → Answers c (see m).ring_end e (Refused n) m b e
+    → Answers c (see m).ring_end e (Err n) m b e
 unfolding answer_of buffer_after written_by
 refused_as {m} {b} {e} c n l f =
     record {
@@ -78,7 +72,7 @@ stay l = record { stored = l.whole.bytes; name = refl; kept = refl }
 -- k is called of the memory m and b, and lent the buffer e: the memory is v and c after it, and "bytes beyond those written stay unchanged"
 done-as : (k : Call) {m b e : List ℕ} (consumed : ℕ) (a : Answered) {r : Did} {v c o : List ℕ} → Lent m b → Wired k
     → call k (shown m b) ≡ replies consumed a → Gives a (see m).ring_end e r v c o
-    → Answers (call k (shown m b)) (see m).ring_end e (Done (record { consumed = consumed; written = r.written; moved = r.moved })) v c o
+    → Answers (call k (shown m b)) (see m).ring_end e (Ok (record { consumed = consumed; written = r.written; moved = r.moved })) v c o
 unfolding answer_of buffer_after written_by
 done-as k {m} {b} {e} consumed a {r} {v} {c} l wired f g =
     let q : shown v c ≡ (call k (shown m b)).splicer = g.splicer ∙ sym (ap (λ y. y.splicer) f) in
@@ -90,7 +84,7 @@ done-as k {m} {b} {e} consumed a {r} {v} {c} l wired f g =
       };
       splicer = q;
       ring = g.ring ∙ sym (ap (λ y. shifted y.accepted (see m).ring_end) f);
-      answer = ap₂ (λ (y z : ℕ). Done (record { consumed = consumed; written = y; moved = z })) n g.moved
+      answer = ap₂ (λ (y z : ℕ). Ok (record { consumed = consumed; written = y; moved = z })) n g.moved
           ∙ sym (ap (λ y. answer_of y.answer y.moved) f);
       buffer = g.tells.bytes ∙ sym (ap (λ y. buffer_after y.answer e) f);
     }
@@ -101,7 +95,7 @@ turned_as : (k : Call) {m b e : List ℕ} (z : Memory) (f : Memory → Memory) (
     → (f (queued t.queue z)).ring_end ≡ (see m).ring_end → Lent m b → Wired k
     → call k (shown m b) ≡ does 0 t.written (told (name_of b) h (f (queued t.queue z)))
     → Turns e 0 t z n len o → Now v (f (see n)) → Holds c (name_of b) h
-    → Answers (call k (shown m b)) (see m).ring_end e (Done (unmoved len)) v c o
+    → Answers (call k (shown m b)) (see m).ring_end e (Ok (unmoved len)) v c o
 turned_as k {m} {b} z f t h stays l wired g x y q =
     let is = y.is ∙ ap f x.shows.is in
     done-as k 0 (says t.written (told (name_of b) h (f (queued t.queue z)))) {r = unmoved _} l wired g
@@ -131,11 +125,11 @@ module _ {now : ℕ} {q : Queue} (h : Holding now q) where
 
 -- ## Open
 
--- the second way of `if let Link::Closed`
-pub not-closed : (a : Link) → (a ≡ Closed → ⊥) → is_open a ≡ true
-not-closed Closed h = absurd (h refl)
-not-closed Opened h = refl
-not-closed Initialised h = refl
+-- the comparison in `open` and `test_open`
+pub open-is : (a : Link) → is_open a ≡ not (sameb the_type a Closed)
+open-is Closed = refl
+open-is Opened = refl
+open-is Initialised = refl
 
 module _ (c : ℕ) (s : Splicer) where
   open_none : 3 < c → open_call c s ≡ refuse NoConnection s
@@ -152,15 +146,15 @@ module _ (c : ℕ) (s : Splicer) where
 
 -- a: what the connection is
 module _ {m b : List ℕ} (c : ℕ) (l : Lent m b) where
-  pub open-bad : 3 < c → Answers (open_call c (shown m b)) (see m).ring_end [] (Refused NoConnection) m b []
+  pub open-bad : 3 < c → Answers (open_call c (shown m b)) (see m).ring_end [] (Err NoConnection) m b []
   open-bad e = refused_as (open_call c (shown m b)) NoConnection l (open_none c (shown m b) e)
 
   module _ (a : Link) (low : c ≤ 3) (is : a ≡ get_or (see m).links c Closed) where
-    pub open_twice : is_open a ≡ true → Answers (open_call c (shown m b)) (see m).ring_end [] (Refused AlreadyOpen) m b []
+    pub open_twice : is_open a ≡ true → Answers (open_call c (shown m b)) (see m).ring_end [] (Err AlreadyOpen) m b []
     open_twice f = refused_as (open_call c (shown m b)) AlreadyOpen l (open-again c (shown m b) low (ap is_open (sym is) ∙ f))
 
     pub open_done : {v : List ℕ} → is_open a ≡ false → Now v (linked c Opened (see m))
-        → Answers (open_call c (shown m b)) (see m).ring_end [] (Done (unmoved 0)) v b []
+        → Answers (open_call c (shown m b)) (see m).ring_end [] (Ok (unmoved 0)) v b []
     unfolding call output
     open_done f n =
         done-as (opens c) 0 (says [] (with_link c Opened (shown m b))) {r = unmoved 0} l tt
@@ -174,30 +168,68 @@ module _ {m b : List ℕ} (c : ℕ) (l : Lent m b) where
           moved = refl;
         })
 
+-- ## 2 and 8: what a test says
+
+abbrev pub passed : Tested
+passed = Ok tt
+
+module _ (b : Bool) (n : Refusal) {t : Tested} (is : t ≡ cond b (Err n) passed) where
+  says-no : (e : Refusal) → t ≡ Err e → (b ≡ true) × (e ≡ n)
+  says-no e f = go b refl is
+    where
+      go : (a : Bool) → b ≡ a → t ≡ cond a (Err n) passed → (b ≡ true) × (e ≡ n)
+      go true x z = (x, cc)
+      go false x z = let k : ◌≡◌ {A = ℕ} 0 1 = cc in absurd (omega arith)
+
+  says-yes : t ≡ passed → b ≡ false
+  says-yes f = go b refl is
+    where
+      go : (a : Bool) → b ≡ a → t ≡ cond a (Err n) passed → b ≡ false
+      go false x z = x
+      go true x z = let k : ◌≡◌ {A = ℕ} 0 1 = cc in absurd (omega arith)
+
+module _ (room : ℕ) {t : Tested} (is : t ≡ room_test room) where
+  pub room-refused : (n : Refusal) → t ≡ Err n → (room < 4096) × (n ≡ NoRoom)
+  unfolding room_test
+  room-refused n e = let x = says-no (no_room room) NoRoom is n e in (ltb-true room 4096 x.0, x.1)
+
+  pub room-past : t ≡ passed → 4096 ≤ room
+  unfolding room_test
+  room-past e = ltb-false room 4096 (says-yes (no_room room) NoRoom is e)
+
+module _ (micros : ℕ) {t : Tested} (is : t ≡ micros_test micros) where
+  pub micros-refused : (n : Refusal) → t ≡ Err n → (999999 < micros) × (n ≡ BadMicros)
+  unfolding micros_test
+  micros-refused n e = let x = says-no (bad_micros micros) BadMicros is n e in (ltb-true 999999 micros x.0, x.1)
+
+  pub micros-past : t ≡ passed → micros ≤ 999999
+  unfolding micros_test
+  micros-past e = ltb-false 999999 micros (says-yes (bad_micros micros) BadMicros is e)
+
 -- ## 1, 2, 7: close and message
 
 module _ (c room : ℕ) (links : List Link) where
-  pub test-bad : 3 < c → Bad NoConnection ≡ open_test c room links
+  pub test-bad : 3 < c → Err NoConnection ≡ open_test c room links
   unfolding open_test
   test-bad e = rw (lt-ltb 3 c e)
 
-  pub test-small : c ≤ 3 → room < 4096 → Bad NoRoom ≡ open_test c room links
+  pub test-small : c ≤ 3 → room < 4096 → Err NoRoom ≡ open_test c room links
   unfolding open_test
   test-small e m = rw (le-ltb 3 c e, lt-ltb room 4096 m)
 
   module _ (a : Link) (low : c ≤ 3) (roomy : 4096 ≤ room) (is : a ≡ get_or links c Closed) where
-    pub test-shut : is_open a ≡ false → Bad NotOpen ≡ open_test c room links
+    pub test-shut : is_open a ≡ false → Err NotOpen ≡ open_test c room links
     unfolding open_test
     test-shut f = rw (le-ltb 3 c low, le-ltb room 4096 roomy, ← is, f)
 
-    pub test_good : is_open a ≡ true → Good ≡ open_test c room links
+    pub test_good : is_open a ≡ true → passed ≡ open_test c room links
     unfolding open_test
     test_good f = rw (le-ltb 3 c low, le-ltb room 4096 roomy, ← is, f)
 
 -- the work x, or the refusal
 abbrev tested : Tested → Splicer → Called → Called
-tested Good s x = x
-tested (Bad n) s x = refuse n s
+tested (Ok u) s x = x
+tested (Err n) s x = refuse n s
 
 abbrev pub guarded : ℕ → ℕ → Splicer → Called → Called
 guarded c room s x =
@@ -208,42 +240,43 @@ unfolding open_test
 guarded-is c room s x t e = go (no_connection c) (no_room room) (not_open c s) ∙ ap (λ y. tested y s x) (sym e)
   where
     go : (a b d : Bool) → cond a (refuse NoConnection s) (cond b (refuse NoRoom s) (cond d (refuse NotOpen s) x))
-        ≡ tested (cond a (Bad NoConnection) (cond b (Bad NoRoom) (cond d (Bad NotOpen) Good))) s x
+        ≡ tested (cond a (Err NoConnection) (cond b (Err NoRoom) (cond d (Err NotOpen) passed))) s x
     go true b d = refl
     go false true d = refl
     go false false true = refl
     go false false false = refl
 
 -- what the work may rely on
-pub test-past : (c room : ℕ) (links : List Link) → Good ≡ open_test c room links → (c ≤ 3) × (4096 ≤ room)
+pub test-past : (c room : ℕ) (links : List Link) → passed ≡ open_test c room links → (c ≤ 3) × (4096 ≤ room)
 unfolding open_test
 test-past c room links e = go (no_connection c) (no_room room) (not (is_open (get_or links c Closed))) refl refl e
   where
     go : (a b d : Bool) → no_connection c ≡ a → no_room room ≡ b
-        → Good ≡ cond a (Bad NoConnection) (cond b (Bad NoRoom) (cond d (Bad NotOpen) Good)) → (c ≤ 3) × (4096 ≤ room)
+        → passed ≡ cond a (Err NoConnection) (cond b (Err NoRoom) (cond d (Err NotOpen) passed)) → (c ≤ 3) × (4096 ≤ room)
     go true b d x y z = let n : ◌≡◌ {A = ℕ} 0 1 = cc in absurd (omega arith)
     go false true d x y z = let n : ◌≡◌ {A = ℕ} 0 1 = cc in absurd (omega arith)
     go false false d x y z = (ltb-false 3 c x, ltb-false room 4096 y)
 
 -- x: what the call would do; t: the test's answer
 pub guard-refused : {m b e : List ℕ} (c : ℕ) (x : Called) (n : Refusal) {t : Tested} → Lent m b → t ≡ open_test c (length e) (see m).links
-    → t ≡ Bad n → Answers (guarded c (length e) (shown m b) x) (see m).ring_end e (Refused n) m b e
+    → t ≡ Err n → Answers (guarded c (length e) (shown m b) x) (see m).ring_end e (Err n) m b e
 guard-refused {m} {b} {e} c x n l f g =
-    refused_as (guarded c (length e) (shown m b) x) n l (guarded-is c (length e) (shown m b) x (Bad n) (sym g ∙ f))
+    refused_as (guarded c (length e) (shown m b) x) n l (guarded-is c (length e) (shown m b) x (Err n) (sym g ∙ f))
 
 -- p, q: the sections
-module _ (c room : ℕ) (s : Splicer) (d p q : List ℕ) (e : Good ≡ open_test c room s.links) where
+module _ (c room : ℕ) (s : Splicer) (d p q : List ℕ) (e : passed ≡ open_test c room s.links) where
   abbrev loans : Loans
   loans = lending_maps p q room
 
   message-past : message_call c d loans s ≡ cond (long_section loans) (refuse LongSection s) (handled c (framing d) d loans s)
   unfolding message_call
-  message-past = guarded-is c room s _ Good e
+  message-past = guarded-is c room s _ passed e
 
   message-long : long_section loans ≡ true → message_call c d loans s ≡ refuse LongSection s
   message-long i = message-past ∙ rw i
 
-  message-framed : (f : Framing) → long_section loans ≡ false → framing d ≡ f → message_call c d loans s ≡ handled c f d loans s
+  message-framed : (f : Result Header Refusal) → long_section loans ≡ false → framing d ≡ f → message_call c d loans s
+      ≡ handled c f d loans s
   message-framed f i j = message-past ∙ rw (i, j)
 
 -- 10: "a lent section over 1,024 bytes"
@@ -267,44 +300,44 @@ unfolding air_feed
 feed-some [] h = absurd (omega arith)
 feed-some (x ∷ l) h = refl
 
-module _ {m b e : List ℕ} (c : ℕ) (l : Lent m b) (good : Good ≡ open_test c (length e) (see m).links) where
+module _ {m b e : List ℕ} (c : ℕ) (l : Lent m b) (good : passed ≡ open_test c (length e) (see m).links) where
   pub close-done : {n v p o : List ℕ} {len : ℕ} → Turns e 0 (closed_by c (see m).queue) (see m) n len o → Now v (linked c Closed (see n))
       → Holds p (name_of b) (set (kept_of b) c no_hardware) → Answers (close_call c (length e) (shown m b)) (see m).ring_end e
-      (Done (unmoved len)) v p o
+      (Ok (unmoved len)) v p o
   unfolding close_call call
   close-done =
       turned_as (closes c (length e)) (see m) (linked c Closed) (closed_by c (see m).queue) (set (kept_of b) c no_hardware) refl l tt
-      (guarded-is c (length e) (shown m b) _ Good good)
+      (guarded-is c (length e) (shown m b) _ passed good)
 
   -- d is what was read; p: the one section that is handed on
   module _ (d p : List ℕ) where
     pub message-section : longest_section < length p
-        → Answers (message_call c d (lending_maps p p (length e)) (shown m b)) (see m).ring_end e (Refused LongSection) m b e
+        → Answers (message_call c d (lending_maps p p (length e)) (shown m b)) (see m).ring_end e (Err LongSection) m b e
     message-section h =
         refused_as (message_call c d (lending_maps p p (length e)) (shown m b)) LongSection l
         (message-long c (length e) (shown m b) d p p good (one-long p (length e) true (lt-ltb longest_section (length p) h)))
 
     module _ (h : length p ≤ longest_section) where
-      pub message-unframed : (n : Refusal) {f : Framing} → f ≡ framing d → f ≡ Unframed n
-          → Answers (message_call c d (lending_maps p p (length e)) (shown m b)) (see m).ring_end e (Refused n) m b e
+      pub message-unframed : (n : Refusal) {f : Result Header Refusal} → f ≡ framing d → f ≡ Err n
+          → Answers (message_call c d (lending_maps p p (length e)) (shown m b)) (see m).ring_end e (Err n) m b e
       unfolding handled
       message-unframed n i u =
           refused_as (message_call c d (lending_maps p p (length e)) (shown m b)) n l
-          (message-framed c (length e) (shown m b) d p p good (Unframed n)
+          (message-framed c (length e) (shown m b) d p p good (Err n)
           (one-long p (length e) false (le-ltb longest_section (length p) h)) (sym i ∙ u))
 
       -- y: the data that was handed on
-      pub message-done : {v w o y : List ℕ} (id size : ℕ) {r : Did} {f : Framing} → All Byte d × All Byte p → f ≡ framing d
-          → f ≡ Framed id size → y ≡ data_of size d → Gives (answer c id y p (shown m b)) (see m).ring_end e r v w o
+      pub message-done : {v w o y : List ℕ} (x : Header) {r : Did} {f : Result Header Refusal} → All Byte d × All Byte p → f ≡ framing d
+          → f ≡ Ok x → y ≡ data_of x.size d → Gives (answer c x.id y p (shown m b)) (see m).ring_end e r v w o
           → Answers (message_call c d (lending_maps p p (length e)) (shown m b)) (see m).ring_end e
-          (Done (record { consumed = 8 + size; written = r.written; moved = r.moved })) v w o
+          (Ok (record { consumed = 8 + x.size; written = r.written; moved = r.moved })) v w o
       unfolding handled call
-      message-done {y = y} id size a i u z g =
+      message-done {y = y} x a i u z g =
           let s = shown m b in
           let short = one-long p (length e) false (le-ltb longest_section (length p) h) in
-          let g' = message-framed c (length e) s d p p good (Framed id size) short (sym i ∙ u)
-          ∙ ap₂ (λ k j. replies (8 + size) (answer c id k j s)) (sym z) (air-one s.queue.started p) in
-          done-as (messages c d (lending_maps p p (length e))) (8 + size) (answer c id y p s) l (a.0, a.1, a.1) g' g
+          let g' = message-framed c (length e) s d p p good (Ok x) short (sym i ∙ u)
+          ∙ ap₂ (λ k j. replies (8 + x.size) (answer c x.id k j s)) (sym z) (air-one s.queue.started p) in
+          done-as (messages c d (lending_maps p p (length e))) (8 + x.size) (answer c x.id y p s) l (a.0, a.1, a.1) g' g
 
 -- ## The clock brought to until
 
@@ -322,16 +355,16 @@ module _ (until room : ℕ) (s : Splicer) where
   move-good e f = rw (le-ltb room 4096 e, le-ltb until s.clock f)
 
 module _ {m b e : List ℕ} (until : ℕ) (l : Lent m b) where
-  pub move-small : length e < 4096 → Answers (move_call until (length e) (shown m b)) (see m).ring_end e (Refused NoRoom) m b e
+  pub move-small : length e < 4096 → Answers (move_call until (length e) (shown m b)) (see m).ring_end e (Err NoRoom) m b e
   move-small h = refused_as (move_call until (length e) (shown m b)) NoRoom l (move-none until (length e) (shown m b) h)
 
   pub move-back : 4096 ≤ length e → until < (see m).clock → Answers (move_call until (length e) (shown m b)) (see m).ring_end e
-      (Refused ClockBack) m b e
+      (Err ClockBack) m b e
   move-back h i = refused_as (move_call until (length e) (shown m b)) ClockBack l (move-before until (length e) (shown m b) h i)
 
   pub move-done : {n v o : List ℕ} {len : ℕ} → until < horizon → 4096 ≤ length e → (see m).clock ≤ until
       → Ticked until (see m) e len n o → Now v (timed until (see n))
-      → Answers (move_call until (length e) (shown m b)) (see m).ring_end e (Done (unmoved len)) v b o
+      → Answers (move_call until (length e) (shown m b)) (see m).ring_end e (Ok (unmoved len)) v b o
   unfolding call ticked
   move-done low h i x y =
       turned_as (moves until (length e)) (silenced (silent_all (see m).clock until (see m).queue) (see m)) (timed until)
@@ -354,11 +387,11 @@ module _ (seconds micros room : ℕ) (s : Splicer) where
   tick-good e f = rw (le-ltb room 4096 e, le-ltb 999999 micros f)
 
 module _ {m b e : List ℕ} (seconds micros : ℕ) (l : Lent m b) where
-  pub tick-small : length e < 4096 → Answers (tick_call seconds micros (length e) (shown m b)) (see m).ring_end e (Refused NoRoom) m b e
+  pub tick-small : length e < 4096 → Answers (tick_call seconds micros (length e) (shown m b)) (see m).ring_end e (Err NoRoom) m b e
   tick-small h = refused_as (tick_call seconds micros (length e) (shown m b)) NoRoom l (tick-none seconds micros (length e) (shown m b) h)
 
   pub tick-micros : 4096 ≤ length e → 999999 < micros
-      → Answers (tick_call seconds micros (length e) (shown m b)) (see m).ring_end e (Refused BadMicros) m b e
+      → Answers (tick_call seconds micros (length e) (shown m b)) (see m).ring_end e (Err BadMicros) m b e
   tick-micros h i =
       refused_as (tick_call seconds micros (length e) (shown m b)) BadMicros l (tick-over seconds micros (length e) (shown m b) h i)
 
@@ -394,25 +427,25 @@ module _ (x : List ℕ) (pts seconds micros room : ℕ) (s : Splicer) where
   cue-good e f g = rw (le-ltb room 4096 e, le-ltb 999999 micros f, g)
 
 module _ {m b e : List ℕ} (x : List ℕ) (pts seconds micros : ℕ) (l : Lent m b) where
-  pub cue-small : length e < 4096 → Answers (cue_call x pts seconds micros (length e) (shown m b)) (see m).ring_end e (Refused NoRoom) m b e
+  pub cue-small : length e < 4096 → Answers (cue_call x pts seconds micros (length e) (shown m b)) (see m).ring_end e (Err NoRoom) m b e
   cue-small h = refused_as (cue_call x pts seconds micros (length e) (shown m b)) NoRoom l
       (cue-none x pts seconds micros (length e) (shown m b) h)
 
   pub cue-micros : 4096 ≤ length e → 999999 < micros
-      → Answers (cue_call x pts seconds micros (length e) (shown m b)) (see m).ring_end e (Refused BadMicros) m b e
+      → Answers (cue_call x pts seconds micros (length e) (shown m b)) (see m).ring_end e (Err BadMicros) m b e
   cue-micros h i =
       refused_as (cue_call x pts seconds micros (length e) (shown m b)) BadMicros l
       (cue-over x pts seconds micros (length e) (shown m b) h i)
 
   pub cue-section : 4096 ≤ length e → micros ≤ 999999 → bad_section x ≡ true
-      → Answers (cue_call x pts seconds micros (length e) (shown m b)) (see m).ring_end e (Refused BadSection) m b e
+      → Answers (cue_call x pts seconds micros (length e) (shown m b)) (see m).ring_end e (Err BadSection) m b e
   cue-section h i g =
       refused_as (cue_call x pts seconds micros (length e) (shown m b)) BadSection l
       (cue-unfit x pts seconds micros (length e) (shown m b) h i g)
 
   pub cue-done : {o : List ℕ} {len : ℕ} → All Byte x → 4096 ≤ length e → micros ≤ 999999 → bad_section x ≡ false
       → Tells e 0 (cue_records (read_cue x) (cue_time pts seconds micros (read_cue x)) x (initialised_ones (see m).links)) len o
-      → Answers (cue_call x pts seconds micros (length e) (shown m b)) (see m).ring_end e (Done (unmoved len)) m b o
+      → Answers (cue_call x pts seconds micros (length e) (shown m b)) (see m).ring_end e (Ok (unmoved len)) m b o
   unfolding call
   cue-done y h i g t =
       done-as (cues x pts seconds micros (length e)) 0 (says _ (shown m b)) {r = unmoved _} l y

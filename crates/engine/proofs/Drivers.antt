@@ -6,8 +6,7 @@ use native.Mathlib.Omega.{arith}
 use lib.ListN.{length, get_or}
 use borrow.Author.Tests.{le-leb, lt-leb}
 use Rattle.rules.specs.declared.Ninths.{Ninths}
-use Rattle.rules.specs.declared.When.{When}
-use Rattle.rules.specs.declared.When.TheVariants.{At, Never}
+use Rattle.std.specs.Prelude.{Option, Some, None}
 use Rattle.rules.specs.declared.Session.{Session}
 use Rattle.rules.specs.Units.{up_micros}
 use Rattle.rules.specs.State.{empty}
@@ -35,12 +34,12 @@ unfolding air_row
 air-first [] s e h = absurd (omega arith)
 air-first (x ∷ l) s e h = ap row_of e
 
-pub due-never : (w : When) → w ≡ Never → 0 ∷ 0 ∷ 0 ∷ 0 ∷ [] ≡ due_row w
+pub due-never : (w : Option Ninths) → w ≡ None → 0 ∷ 0 ∷ 0 ∷ 0 ∷ [] ≡ due_row w
 unfolding due_row
 due-never w e = sym (ap due_row e)
 
 -- the instant, and its microsecond rounded up
-module _ (w : When) (t : Ninths) (e : w ≡ At t) (up : ℕ) (u : up ≡ up_micros t.0) where
+module _ (w : Option Ninths) (t : Ninths) (e : w ≡ Some t) (up : ℕ) (u : up ≡ up_micros t.0) where
   pub due-beyond : 4294967296000000 ≤ up → 1 ∷ t.0 ∷ 0 ∷ 0 ∷ [] ≡ due_row w
   unfolding due_row
   due-beyond h = sym (ap due_row e ∙ rw (le-leb horizon (up_micros t.0 * 9) (omega arith)))

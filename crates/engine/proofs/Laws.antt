@@ -1,6 +1,6 @@
 -- Each promise determines its result: any two results that it allows are equal, and a refusal leaves everything as it was.
 -- Rests on memory's memory-same: what is shown determines every word and byte.
-use mathlib.Core.Path.{◌≡◌, refl, sym, ◌∙◌}
+use mathlib.Core.Path.{◌≡◌, sym, ◌∙◌}
 use mathlib.Core.Bool.{Bool, false, cond}
 use mathlib.Core.List.{List, []}
 use Prim.Native.Nat.{ℕ}
@@ -10,8 +10,7 @@ use lib.ListN.{length, replicate}
 use Rattle.rules.specs.declared.Refusal.{Refusal}
 use Rattle.rules.specs.declared.Refusal.TheVariants.{NoConnection, NoRoom, ClockBack, AlreadyOpen, NotOpen, BadMicros, BadName}
 use Rattle.rules.specs.declared.Refusal.TheVariants.{LongSection, BadSection}
-use Rattle.rules.specs.declared.Framing.{Framing}
-use Rattle.rules.specs.declared.Framing.TheVariants.{Framed, Unframed}
+use Rattle.rules.specs.declared.Header.{Header}
 use Rattle.rules.specs.Lists.{All}
 use Rattle.rules.specs.Units.{bad_micros, time_of, from_micros}
 use Rattle.rules.specs.Follows.Wires.{Byte}
@@ -30,9 +29,8 @@ use Rattle.rules.proofs.Tests.{by}
 use Rattle.memory.specs.Memory.{words, bytes, see, shown}
 use Rattle.memory.proofs.Laws.{memory-same, cleared-now}
 use Rattle.memory.proofs.Names.{cleared}
-use Rattle.engine.specs.declared.Answer.{Answer}
-use Rattle.engine.specs.declared.Answer.TheVariants.{Refused}
-use Rattle.engine.specs.Lent.{Lent, answer_of, Answers}
+use Rattle.std.specs.Prelude.{Result, Ok, Err}
+use Rattle.engine.specs.Lent.{Lent, Answer, answer_of, Answers}
 use Rattle.engine.proofs.Beginning.{fresh-bad}
 use Rattle.engine.proofs.Calls.{refused_as, guarded}
 
@@ -65,10 +63,10 @@ module _ (s : Splicer) (n : Refusal) where
   keeps-does : (consumed : ℕ) (rs : List Record) (t : Splicer) → Keeps (does consumed rs t)
   keeps-does consumed rs t = keeps-replies consumed (says rs t)
 
-  keeps-handled : (c : ℕ) (f : Framing) (l : List ℕ) (loans : Loans) → Keeps (handled c f l loans s)
+  keeps-handled : (c : ℕ) (f : Result Header Refusal) (l : List ℕ) (loans : Loans) → Keeps (handled c f l loans s)
   unfolding handled
-  keeps-handled c (Unframed m) l loans = keeps-refuse m
-  keeps-handled c (Framed id size) l loans = keeps-replies _ _
+  keeps-handled c (Err m) l loans = keeps-refuse m
+  keeps-handled c (Ok h) l loans = keeps-replies _ _
 
   -- a test, and what follows it
   keeps-test : (b : Bool) (m : Refusal) (c : Called) → Keeps c → Keeps (cond b (refuse m s) c)
@@ -97,23 +95,23 @@ module _ (s : Splicer) (n : Refusal) where
       keeps-test (no_room room) NoRoom _ (keeps-test (bad_micros micros) BadMicros _
       (keeps-test (bad_section l) BadSection _ (keeps-does _ _ _)))
 
-pub refused-answer : (a : numbers.Answer) (moved : ℕ) (n : Refusal) → Refused n ≡ answer_of a moved → a ≡ refused n
+pub refused-answer : (a : numbers.Answer) (moved : ℕ) (n : Refusal) → Err n ≡ answer_of a moved → a ≡ refused n
 unfolding answer_of
 refused-answer (refused m) moved n e = cc
 refused-answer (good consumed rs) moved n e = let z : ◌≡◌ {A = ℕ} 0 1 = cc in absurd (omega arith)
 
 -- of every result that the contract of a call other than fresh allows: the words, the bytes and the buffer are as they were
 pub refused-unchanged : (k : Call) (n : Refusal) (m b e : List ℕ) (r : Answer) (v c o : List ℕ) → Lent m b
-    → Answers (call k (shown m b)) (see m).ring_end e r v c o → r ≡ Refused n → (v ≡ m) × (c ≡ b) × (o ≡ e)
+    → Answers (call k (shown m b)) (see m).ring_end e r v c o → r ≡ Err n → (v ≡ m) × (c ≡ b) × (o ≡ e)
 refused-unchanged k n m b e r v c o l a f =
     let x = call k (shown m b) in
     let y = call-refused (shown m b) n k (refused-answer x.answer x.moved n (sym f ∙ a.answer)) in
-    let z = answers-same x (see m).ring_end e r (Refused n) v c o m b e a (refused_as x n l y) in
+    let z = answers-same x (see m).ring_end e r (Err n) v c o m b e a (refused_as x n l y) in
     (z.1, z.2, z.3)
 
 -- "A refused fresh gives, with number 9, the splicer of an empty name."
 pub fresh-refused : (name : List ℕ) (r : Answer) (m b o : List ℕ) → length name ≡ 32 → All Byte name → has_zero name ≡ false
-    → Answers (fresh name) 0 [] r m b o → (r ≡ Refused BadName) × (m ≡ replicate words 0) × (b ≡ replicate bytes 0) × (o ≡ [])
+    → Answers (fresh name) 0 [] r m b o → (r ≡ Err BadName) × (m ≡ replicate words 0) × (b ≡ replicate bytes 0) × (o ≡ [])
 fresh-refused name r m b o long wide z a =
-    answers-same (fresh name) 0 [] r (Refused BadName) m b o (replicate words 0) (replicate bytes 0) [] a
+    answers-same (fresh name) 0 [] r (Err BadName) m b o (replicate words 0) (replicate bytes 0) [] a
     (fresh-bad name long wide cleared-now cleared z)

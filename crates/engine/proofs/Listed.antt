@@ -12,13 +12,13 @@ use borrow.Author.Tests.{ltb-true, ltb-false}
 use borrow.Rule.Slice.PartMut.{put_mid, mid_of}
 use Rattle.rules.specs.declared.Session.{Session}
 use Rattle.rules.specs.Bytes.{written}
-use Rattle.rules.specs.State.{Queue, empty}
+use Rattle.rules.specs.State.{empty}
 use Rattle.rules.specs.Listing.{started_state, waiting_state, row_width, session_row, session_rows, held_rows}
 use Rattle.rules.proofs.Written.{written_none, length-written, written_next}
 use Rattle.rules.proofs.Sound.{few-wait, few-started}
 use Rattle.memory.specs.declared.Which.{Which}
 use Rattle.memory.specs.declared.Which.TheVariants.{Waiting, Started}
-use Rattle.memory.specs.Memory.{sessions, see, shown}
+use Rattle.memory.specs.Memory.{sessions, shown}
 use Rattle.engine.specs.Lent.{Lent, ReadsSessions, state_of, Listable, Lists}
 use Rattle.engine.proofs.Calls.{holding}
 

@@ -6,10 +6,11 @@ use Prim.Native.Nat.{ℕ, ◌+◌}
 use native.Mathlib.Omega.{arith}
 use lib.Dec.{eqb, ltb}
 use lib.ListN.{length}
-use borrow.Author.Tests.{eqb-true, ne_eqb}
+use borrow.Author.Tests.{eqb-true}
 use Rattle.rules.specs.declared.Session.{Session}
-use Rattle.rules.specs.declared.Framing.{Framing}
-use Rattle.rules.specs.declared.Framing.TheVariants.{Framed, Unframed}
+use Rattle.rules.specs.declared.Header.{Header}
+use Rattle.rules.specs.declared.Refusal.{Refusal}
+use Rattle.std.specs.Prelude.{Result, Ok, Err}
 use Rattle.rules.specs.declared.Refusal.TheVariants.{LongSection}
 use Rattle.rules.specs.State.{Splicer}
 use Rattle.rules.specs.Answers.{air_feed, air_map, answer}
@@ -18,8 +19,7 @@ use Rattle.rules.specs.HouseNumbers.{Loans, Called, refuse, replies, lending_map
 use Rattle.rules.specs.Calls.{framing, section_of, handled}
 use Rattle.rules.specs.Calls.{message_call}
 use Rattle.memory.specs.Memory.{see, shown}
-use Rattle.engine.specs.declared.Answer.{Answer}
-use Rattle.engine.specs.Lent.{Answers, Makes, needed}
+use Rattle.engine.specs.Lent.{Answer, Answers, Makes, needed}
 use Rattle.engine.proofs.Calls.{guarded}
 
 -- the choice, of the sections in place of what is lent
@@ -40,11 +40,11 @@ air-of [] p q false e = let z : ◌≡◌ {A = ℕ} 0 1 = cc in absurd (omega ar
 air-of (x ∷ k) p q true e = let z : length (x ∷ k) ≡ 0 = eqb-true (length (x ∷ k)) 0 e in absurd (omega arith)
 air-of (x ∷ k) p q false e = refl
 
-handled-of : (c : ℕ) (f : Framing) (l : List ℕ) (x y : Loans) (s : Splicer) → section_of x s ≡ section_of y s
+handled-of : (c : ℕ) (f : Result Header Refusal) (l : List ℕ) (x y : Loans) (s : Splicer) → section_of x s ≡ section_of y s
     → handled c f l x s ≡ handled c f l y s
 unfolding handled
-handled-of c (Unframed n) l x y s e = refl
-handled-of c (Framed id size) l x y s e = ap (λ (z : List ℕ). replies (8 + size) (answer c id (data_of size l) z s)) e
+handled-of c (Err n) l x y s e = refl
+handled-of c (Ok h) l x y s e = ap (λ (z : List ℕ). replies (8 + h.size) (answer c h.id (data_of h.size l) z s)) e
 
 module _ (c room : ℕ) (l p q : List ℕ) (s : Splicer) where
   abbrev rest : (p q : List ℕ) → Called

@@ -1,11 +1,12 @@
 -- What each call may rely on, and what it promises.
-use Rattle.std.specs.Prelude.{◌≡◌, cond, not, List, [], ◌∷◌, ℕ, ◌+◌, ◌*◌, ◌/◌, ◌≤◌, eqb, ltb, length, get_or, take}
+use Rattle.std.specs.Prelude.{◌≡◌, cond, not, Result, Ok, Err, List, [], ◌∷◌, ℕ, ◌*◌, ◌/◌, ◌≤◌, eqb, ltb, length, get_or, take}
 use Rattle.rules.specs.declared.Link.{Link}
 use Rattle.rules.specs.declared.Link.TheVariants.{Closed}
-use Rattle.rules.specs.declared.Refusal.TheVariants.{NoConnection, NoRoom, NotOpen}
-use Rattle.rules.specs.declared.Session.{Session}
+use Rattle.rules.specs.declared.Refusal.{Refusal}
+use Rattle.rules.specs.declared.Refusal.TheVariants.{NoConnection, NoRoom, NotOpen, BadMicros}
 use Rattle.rules.specs.Lists.{All}
 use Rattle.rules.specs.Bytes.{written}
+use Rattle.rules.specs.Units.{bad_micros}
 use Rattle.rules.specs.Records.{output}
 use Rattle.rules.specs.State.{Splicer, is_open, due}
 use Rattle.rules.specs.Answers.{air_mux, air_feed, air_row}
@@ -17,25 +18,30 @@ use Rattle.rules.specs.Follows.Sound.{Proper, Small, Reached}
 use Rattle.memory.specs.declared.Which.{Which}
 use Rattle.memory.specs.declared.Which.TheVariants.{Waiting, Started}
 use Rattle.memory.specs.Memory.{sessions, see, shifted, Form, Whole, shown, tallied}
-use Rattle.engine.specs.declared.Answer.{Answer}
-use Rattle.engine.specs.declared.Answer.TheVariants.{Refused, Done}
-use Rattle.engine.specs.declared.Tested.{Tested}
-use Rattle.engine.specs.declared.Tested.TheVariants.{Good, Bad}
+use Rattle.reply.specs.declared.Did.{Did}
 
 -- "A splicer is what fresh and the calls since have given; a call may rely on that and on nothing else."
 pub record Lent (m b : List ℕ) : Type 0 where
   pub whole : Whole m b
   pub reached : Reached (shown m b)
 
+-- what a call answers: what it did, or its refusal
+abbrev pub Answer : Type 0
+Answer = Result Did Refusal
+
+-- what a test says: the call may go on, or its refusal
+abbrev pub Tested : Type 0
+Tested = Result (Unit {0}) Refusal
+
 -- an answer of document 01 as the code has it: the refusal, or the bytes consumed and written; 02, CR 11: and the places shifted
 unfoldable pub answer_of : numbers.Answer → (moved : ℕ) → Answer
-answer_of (refused n) moved = Refused n
-answer_of (good consumed rs) moved = Done (record { consumed = consumed; written = length (output rs); moved = moved })
+answer_of (refused n) moved = Err n
+answer_of (good consumed rs) moved = Ok (record { consumed = consumed; written = length (output rs); moved = moved })
 
 -- "A refusal returns its number": its house number, or 0 and the bytes consumed and written; 02, CR 11: and the places shifted
 unfoldable pub reply_of : Answer → List ℕ
-reply_of (Refused n) = house_number n ∷ 0 ∷ 0 ∷ 0 ∷ []
-reply_of (Done did) = 0 ∷ did.consumed ∷ did.written ∷ did.moved ∷ []
+reply_of (Err n) = house_number n ∷ 0 ∷ 0 ∷ 0 ∷ []
+reply_of (Ok did) = 0 ∷ did.consumed ∷ did.written ∷ did.moved ∷ []
 
 -- what a call promises: the memory m and b shows the splicer after the call, the answer is the call's, and so is the whole
 -- content o of the output buffer, which held e; the ring, which ended at the place `at`, has moved on with an acceptance alone
@@ -54,12 +60,20 @@ Makes k m b e r n c o = Answers (k (length e) (shown m b)) (see m).ring_end e r 
 abbrev pub needed : {A : Type 0} → (primary insertion n : ℕ) → A → A → A
 needed primary insertion n x y = cond (ltb longest_section primary) x (cond (ltb longest_section insertion) y (cond (eqb n 0) x y))
 
+-- "2: output buffer below 4,096 bytes"
+unfoldable pub room_test : ℕ → Tested
+room_test room = cond (no_room room) (Err NoRoom) (Ok tt)
+
+-- "8: MicroSeconds above 999,999"
+unfoldable pub micros_test : ℕ → Tested
+micros_test micros = cond (bad_micros micros) (Err BadMicros) (Ok tt)
+
 -- "close 1, 2, 7; message 1, 2, 7": what the two test before their work, by the states of the connections
 unfoldable pub open_test : ℕ → ℕ → List Link → Tested
 open_test c room links =
-    cond (no_connection c) (Bad NoConnection)
-    (cond (no_room room) (Bad NoRoom)
-    (cond (not (is_open (get_or links c Closed))) (Bad NotOpen) Good))
+    cond (no_connection c) (Err NoConnection)
+    (cond (no_room room) (Err NoRoom)
+    (cond (not (is_open (get_or links c Closed))) (Err NotOpen) (Ok tt)))
 
 -- 02, CR 5: the value r that is read of the memory m and b: "that of the one on air, 5 with none"
 abbrev pub ReadsMux : (m b : List ℕ) (r : ℕ) → Type 0

@@ -1,25 +1,25 @@
 // The calls of document 01 and the reads, over memory that the caller lends.
-// The splicer's words are in one piece and its bytes in a second.
+// The splicer's words are in one piece and its bytes in a second: they stay two parameters, of which each call asks `Lent`, since C lends
+// them so, and the theorems of the demands cite each call's contract with both. The reads answer in numbers and words, not in an Option or
+// an enum: C reads these, and the definitions ReadsMux, ReadsFeed, ReadsAir, ReadsDue and ReadsSessions say them.
 #![tactic(auto)]
 
 ghost use Rattle.std.specs.Prelude.{◌≡◌, [], ◌<◌, ◌≤◌, min, length};
-ghost use Rattle.rules.specs.Lists.{All};
-ghost use Rattle.rules.specs.Follows.Wires.{Byte};
-ghost use Rattle.rules.specs.Bytes.{has_zero, written};
+ghost use Rattle.rules.specs.Bytes.{written};
 ghost use Rattle.rules.specs.Calls.{fresh, open_call, close_call, message_call, move_call, tick_call, cue_call};
 ghost use Rattle.rules.specs.HouseNumbers.{lending_maps};
 ghost use Rattle.rules.specs.Units.{horizon};
 ghost use Rattle.rules.specs.Follows.Sound.{Proper, Small};
 ghost use Rattle.rules.specs.Listing.{row_width, session_row};
 ghost use Rattle.memory.specs.Memory.{Form, see};
-ghost use Rattle.engine.specs.Lent.{Lent, reply_of, Answers, Makes, open_test, needed, Counts, Primary, ReadsMux, ReadsFeed, ReadsAir};
-ghost use Rattle.engine.specs.Lent.{ReadsDue, ReadsSessions, state_of, Listable, Lists};
+ghost use Rattle.engine.specs.Lent.{Lent, reply_of, Answers, Makes, room_test, micros_test, open_test, needed, Counts, Primary, ReadsMux};
+ghost use Rattle.engine.specs.Lent.{ReadsFeed, ReadsAir, ReadsDue, ReadsSessions, state_of, Listable, Lists};
 
 use answers::Sent;
 use memory::{BYTES, WORDS, Which};
 use relay::Anchor;
 use reply::Did;
-use rules::{Framing, Link, Ninths, Refusal, Session, When};
+use rules::{Link, Ninths, Refusal, Session};
 
 // 02, CR 6, 10: "a lent section over 1,024 bytes".
 const SECTION: usize = 1024;
@@ -29,12 +29,15 @@ pub const ROW: usize = 7;
 
 const HIGH: u64 = 4294967296;
 
-// What a session is.
+// What a session is: numbers, since a row is C's struct, and `state_of` of specs/Lent says them.
 const STATE_ON_AIR: u64 = 1;
 
 const STATE_COVERED: u64 = 2;
 
 const STATE_WAITING: u64 = 3;
+
+// The first microsecond that no Seconds of 32 bits reach.
+const PAST_SECONDS: u64 = 4294967296000000;
 
 // "2: output buffer below 4,096 bytes".
 pub const ROOM: usize = 4096;
@@ -42,37 +45,20 @@ pub const ROOM: usize = 4096;
 // "8: MicroSeconds above 999,999".
 pub const LAST_MICRO: u32 = 999999;
 
-// What a call answers: a refusal, or what it did.
-#[derive(Clone, Copy)]
-pub enum Answer {
-    Refused(Refusal),
-    Done(Did),
-}
-
-// Whether a call may go on to its work.
-#[derive(Clone, Copy)]
-enum Tested {
-    Good,
-    Bad(Refusal),
-}
+// What a call answers: what it did, or a refusal.
+pub type Answer = Result<Did, Refusal>;
 
 // The reply's four words, for the doors: the house number of a refusal or 0, the bytes consumed and written, and how many places an
 // acceptance shifted.
+// No From: Result and arrays are of other crates.
+#[tactic(auto, unfolding(crate::specs::Lent::reply_of))]
 pub fn reply_of(a: Answer) -> [u64; 4]
     ensures { result ≡ reply_of a }
 {
     match a {
-        Answer::Refused(n) => [reply::house_number(n) as u64, 0, 0, 0],
-        Answer::Done(did) => [0, did.consumed as u64, did.written as u64, did.moved as u64],
+        Err(n) => [reply::house_number(n) as u64, 0, 0, 0],
+        Ok(did) => [0, did.consumed as u64, did.written as u64, did.moved as u64],
     }
-}
-
-// Whether the name has its zero. Of a slice, since only of a slice is it known that its elements are bytes.
-fn is_ended(name: &[u8]) -> bool
-    ensures value { result ≡ has_zero name.now }
-    ensures bytes { All Byte name.now }
-{
-    reading::names::has_zero(name)
 }
 
 // Fresh: clock 0, all connections closed. 9 for a name without a zero, which gives the splicer of an empty name.
@@ -80,16 +66,12 @@ pub fn fresh(name: &[u8; 32], m: &mut [u64; WORDS], b: &mut [u8; BYTES]) -> Answ
     ensures { Answers (fresh name.now) 0 [] result m.new b.new [] }
 {
     memory::clear(&mut *m);
-    if is_ended(name) {
+    if reading::names::has_zero(name) {
         memory::keep_name(&mut *b, name);
-        return Answer::Done(Did {
-            consumed: 0,
-            written: 0,
-            moved: 0,
-        });
+        return Ok(Did::unmoved(0));
     }
     memory::clear_name(&mut *b);
-    Answer::Refused(Refusal::BadName)
+    Err(Refusal::BadName)
 }
 
 // 02, CR 2: "how many of its sessions wait", for each connection. It only reads.
@@ -136,7 +118,7 @@ pub fn air(m: &[u64; WORDS], b: &[u8]) -> [u64; 9]
     requires { Lent m.now b.now }
     ensures { ReadsAir m.now b.now result }
 {
-    if memory::count(m, Which::Started) == 0 {
+    if memory::is_quiet(m) {
         return [0; 9];
     }
     let s = memory::load(m, Which::Started, 0);
@@ -151,12 +133,11 @@ pub fn due(m: &[u64; WORDS], b: &[u8]) -> [u64; 4]
     requires { Lent m.now b.now }
     ensures { ReadsDue m.now b.now result }
 {
-    let next = instants::upcoming(m);
-    let When::At(t) = next else {
-        return [0, 0, 0, 0];
+    let Some(t) = instants::upcoming(m) else {
+        return [0; 4];
     };
     let up = units::up_micros(t);
-    if 4294967296000000 <= up {
+    if PAST_SECONDS <= up {
         return [1, t.0, 0, 0];
     }
     [2, t.0, up / 1000000, up % 1000000]
@@ -167,30 +148,29 @@ fn state_of(which: Which, at: usize) -> u64
     ensures value { result ≡ state_of which at }
     ensures within { result ≤ 3 }
 {
-    match which {
-        Which::Waiting => STATE_WAITING,
-        Which::Started => {
-            if at == 0 {
-                return STATE_ON_AIR;
-            }
-            STATE_COVERED
-        }
+    match (which, at) {
+        (Which::Waiting, _) => STATE_WAITING,
+        (Which::Started, 0) => STATE_ON_AIR,
+        (Which::Started, _) => STATE_COVERED,
     }
 }
 
 // A session as a row.
+#[tactic(auto, unfolding(rules::specs::Bytes::written, rules::specs::Listing::session_row))]
 fn put_session(row: &mut [u64], state: u64, s: Session)
     requires row_width_in_bounds { row_width ≤ length row.old }
     requires proper { Proper s × Small s × (state ≤ 3) }
     ensures { row.new ≡ written row.old 0 (session_row state s) }
 {
-    row[0] = s.start.0;
-    row[1] = s.end.0;
-    row[2] = s.played.0;
-    row[3] = s.conn + HIGH * s.id;
-    row[4] = s.event + HIGH * s.prior;
-    row[5] = s.access + HIGH * s.overrides;
-    row[6] = s.mux + HIGH * state;
+    row[..ROW].copy_from_slice(&[
+        s.start.0,
+        s.end.0,
+        s.played.0,
+        s.conn + HIGH * s.id,
+        s.event + HIGH * s.prior,
+        s.access + HIGH * s.overrides,
+        s.mux + HIGH * state,
+    ]);
 }
 
 // The first n of a list as rows.
@@ -198,23 +178,10 @@ fn list_sessions(m: &[u64], which: Which, n: usize, rows: &mut [u64])
     requires { Listable which n m.now rows.old }
     ensures { Lists which n m.now rows.old rows.new }
 {
-    let mut i = 0;
-    while i < n {
+    for i in 0..n {
         let s = memory::load(m, which, i);
-        let at = i * ROW;
-        put_session(&mut rows[at..], state_of(which, i), s);
-        i += 1;
+        put_session(&mut rows[i * ROW..], state_of(which, i), s);
     }
-}
-
-// The smaller of two.
-fn at_most(n: usize, most: usize) -> usize
-    ensures { result ≡ min n most }
-{
-    if most < n {
-        return most;
-    }
-    n
 }
 
 // The sessions that are held: the started from the highest AccessType down, then those that wait in order of start, as many as there is
@@ -226,16 +193,38 @@ pub fn sessions(m: &[u64; WORDS], b: &[u8], rows: &mut [u64]) -> usize
     let started = memory::count(m, Which::Started);
     let waiting = memory::count(m, Which::Waiting);
     let room = rows.len() / ROW;
-    let first = at_most(started, room);
+    let first = started.min(room);
     list_sessions(m, Which::Started, first, &mut *rows);
     let at = first * ROW;
     list_sessions(
         m,
         Which::Waiting,
-        at_most(waiting, room - first),
+        waiting.min(room - first),
         &mut rows[at..],
     );
     started + waiting
+}
+
+// 2: what each call with an output buffer tests.
+#[tactic(auto, unfolding(crate::specs::Lent::room_test))]
+pub fn test_room(room: usize) -> Result<(), Refusal>
+    ensures { result ≡ room_test room }
+{
+    if room < ROOM {
+        return Err(Refusal::NoRoom);
+    }
+    Ok(())
+}
+
+// 8: what each call with a UTC time tests.
+#[tactic(auto, unfolding(crate::specs::Lent::micros_test))]
+pub fn test_micros(micros: u32) -> Result<(), Refusal>
+    ensures { result ≡ micros_test micros }
+{
+    if LAST_MICRO < micros {
+        return Err(Refusal::BadMicros);
+    }
+    Ok(())
 }
 
 // Open: 1, 6.
@@ -244,36 +233,28 @@ pub fn open(m: &mut [u64; WORDS], b: &mut [u8], conn: u32) -> Answer
     ensures { Makes (λ _. open_call conn) m.old b.old [] result m.new b.new [] }
 {
     if 3 < conn {
-        return Answer::Refused(Refusal::NoConnection);
+        return Err(Refusal::NoConnection);
     }
-    let link = memory::link(&*m, conn);
-    let Link::Closed = link else {
-        return Answer::Refused(Refusal::AlreadyOpen);
-    };
+    if memory::link(&*m, conn) != Link::Closed {
+        return Err(Refusal::AlreadyOpen);
+    }
     memory::set_link(&mut *m, conn, Link::Opened);
-    Answer::Done(Did {
-        consumed: 0,
-        written: 0,
-        moved: 0,
-    })
+    Ok(Did::unmoved(0))
 }
 
 // 1, 2, 7: what close and message test before their work.
-fn test_open(m: &[u64], conn: u32, room: usize) -> Tested
+fn test_open(m: &[u64], conn: u32, room: usize) -> Result<(), Refusal>
     requires { Form m.now }
     ensures { result ≡ open_test conn room (see m.now).links }
 {
     if 3 < conn {
-        return Tested::Bad(Refusal::NoConnection);
+        return Err(Refusal::NoConnection);
     }
-    if room < ROOM {
-        return Tested::Bad(Refusal::NoRoom);
+    test_room(room)?;
+    if memory::link(m, conn) == Link::Closed {
+        return Err(Refusal::NotOpen);
     }
-    let link = memory::link(m, conn);
-    if let Link::Closed = link {
-        return Tested::Bad(Refusal::NotOpen);
-    }
-    Tested::Good
+    Ok(())
 }
 
 // Close: 1, 2, 7. 02, CR 6: it forgets the connection's Hardware_Config.
@@ -282,18 +263,11 @@ pub fn close(m: &mut [u64; WORDS], b: &mut [u8], conn: u32, out: &mut [u8]) -> A
     ensures { Makes (close_call conn) m.old b.old out.old result
         m.new b.new out.new }
 {
-    let test = test_open(&*m, conn, out.len());
-    if let Tested::Bad(n) = test {
-        return Answer::Refused(n);
-    }
+    test_open(&*m, conn, out.len())?;
     let len = ends::end_all_of(&mut *m, conn as u64, &mut *out);
     memory::set_link(&mut *m, conn, Link::Closed);
     memory::forget(&mut *b, conn);
-    Answer::Done(Did {
-        consumed: 0,
-        written: len,
-        moved: 0,
-    })
+    Ok(Did::unmoved(len))
 }
 
 // 02, CR 6: "the caller lends both sections .. and gets back the one on air, as part of what was lent": the very slice, by whether a
@@ -309,8 +283,7 @@ pub fn map_on_air<'a>(m: &[u64; WORDS], primary: &'a [u8], insertion: &'a [u8]) 
     if SECTION < insertion.len() {
         return insertion;
     }
-    let started = memory::count(m, Which::Started);
-    if started == 0 {
+    if memory::count(m, Which::Started) == 0 {
         return primary;
     }
     insertion
@@ -329,26 +302,21 @@ pub fn message(
     ensures { Makes (λ room. message_call conn l.now (lending_maps section.now section.now room))
         m.old b.old out.old result m.new b.new out.new }
 {
-    let test = test_open(&*m, conn, out.len());
-    if let Tested::Bad(n) = test {
-        return Answer::Refused(n);
-    }
+    test_open(&*m, conn, out.len())?;
     if SECTION < section.len() {
-        return Answer::Refused(Refusal::LongSection);
+        return Err(Refusal::LongSection);
     }
-    match reading::frame(l) {
-        Framing::Unframed(n) => Answer::Refused(n),
-        Framing::Framed(id, size) => {
-            let d = reading::data_of(l, size as usize);
-            let sent = Sent { conn: conn, id: id };
-            let did = answers::answer(&mut *m, &mut *b, sent, d, section, &mut *out);
-            Answer::Done(Did {
-                consumed: 8 + size as usize,
-                written: did.written,
-                moved: did.moved,
-            })
-        }
-    }
+    let header = reading::frame(l)?;
+    let d = reading::data_of(l, header.size as usize);
+    let sent = Sent {
+        conn,
+        id: header.id,
+    };
+    let did = answers::answer(&mut *m, &mut *b, sent, d, section, &mut *out);
+    Ok(Did {
+        consumed: 8 + header.size as usize,
+        ..did
+    })
 }
 
 // The clock brought to an instant in ninths: 2, 3.
@@ -358,20 +326,14 @@ pub fn bring_to(m: &mut [u64; WORDS], b: &mut [u8], until: Ninths, out: &mut [u8
     ensures { Makes (move_call until.0) m.old b.old out.old result
         m.new b.new out.new }
 {
-    if out.len() < ROOM {
-        return Answer::Refused(Refusal::NoRoom);
-    }
+    test_room(out.len())?;
     let clock = memory::clock(&*m);
     if until.0 < clock.0 {
-        return Answer::Refused(Refusal::ClockBack);
+        return Err(Refusal::ClockBack);
     }
     let len = instants::run(&mut *m, until, &mut *out);
     memory::set_clock(&mut *m, until);
-    Answer::Done(Did {
-        consumed: 0,
-        written: len,
-        moved: 0,
-    })
+    Ok(Did::unmoved(len))
 }
 
 // Tick: 2, 8, 3.
@@ -380,12 +342,8 @@ pub fn tick(m: &mut [u64; WORDS], b: &mut [u8], seconds: u32, micros: u32, out: 
     ensures { Makes (tick_call seconds micros) m.old b.old out.old result
         m.new b.new out.new }
 {
-    if out.len() < ROOM {
-        return Answer::Refused(Refusal::NoRoom);
-    }
-    if LAST_MICRO < micros {
-        return Answer::Refused(Refusal::BadMicros);
-    }
+    test_room(out.len())?;
+    test_micros(micros)?;
     let until = units::from_micros(units::time_of(seconds, micros));
     bring_to(&mut *m, &mut *b, until, &mut *out)
 }
@@ -396,19 +354,11 @@ pub fn cue(m: &[u64; WORDS], b: &[u8], section: &[u8], at: Anchor, out: &mut [u8
     ensures { Makes (cue_call section.now at.pts at.seconds at.micros) m.now b.now
         out.old result m.now b.now out.new }
 {
-    if out.len() < ROOM {
-        return Answer::Refused(Refusal::NoRoom);
-    }
-    if LAST_MICRO < at.micros {
-        return Answer::Refused(Refusal::BadMicros);
-    }
+    test_room(out.len())?;
+    test_micros(at.micros)?;
     if cues::bad_section(section) {
-        return Answer::Refused(Refusal::BadSection);
+        return Err(Refusal::BadSection);
     }
     let len = relay::pass_on(m, section, at, &mut *out);
-    Answer::Done(Did {
-        consumed: 0,
-        written: len,
-        moved: 0,
-    })
+    Ok(Did::unmoved(len))
 }

@@ -2,11 +2,10 @@
 -- Rests on: the engine's answer is the definition's, so a refusal wrote nothing before its mark.
 use mathlib.Core.Path.{◌≡◌, refl, sym, subst, ap, ◌∙◌}
 use mathlib.Core.Bool.{Bool, true, false}
-use mathlib.Core.List.{List, [], ◌++◌, append-nil}
+use mathlib.Core.List.{List, [], ◌∷◌, ◌++◌, append-nil}
 use Prim.Native.Nat.{ℕ, ◌+◌, ◌-◌, ◌≤◌}
 use native.Mathlib.Omega.{arith}
-use lib.ListN.{length, set}
-use lib.Seq.{sets-eq}
+use lib.ListN.{length, drop}
 use Rattle.rules.specs.declared.Refusal.{Refusal}
 use Rattle.rules.specs.Bytes.{part, written}
 use Rattle.rules.specs.State.{Splicer, is_open, link_of}
@@ -19,9 +18,8 @@ use Rattle.rules.proofs.Tests.{by, clash}
 use Rattle.rules.proofs.Written.{written_none}
 use Rattle.memory.specs.Memory.{see, shown}
 use Rattle.memory.proofs.Laws.{memory-same}
-use Rattle.engine.specs.declared.Answer.{Answer}
-use Rattle.engine.specs.declared.Answer.TheVariants.{Refused}
-use Rattle.engine.specs.Lent.{Lent, answer_of, Answers}
+use Rattle.std.specs.Prelude.{Err}
+use Rattle.engine.specs.Lent.{Lent, Answer, answer_of, Answers}
 use Rattle.feed.specs.declared.Record.{Record}
 use Rattle.feed.specs.declared.Record.TheVariants.{Open, Close, Message, Oversize, Tick, Cut, Unknown}
 use Rattle.feed.specs.declared.Played.{Played}
@@ -32,10 +30,10 @@ use Rattle.feed.proofs.Runs.{within, ahead}
 
 -- ## Behind a call
 
-pub tells-refused : {a : Answer} {n : Refusal} (e : List ℕ) (x : ℕ) → a ≡ Refused n → x ≡ house_number n → 2 ≤ length e
-    → Tells a e 2 (set (set e 0 0x45) 1 x)
+pub tells-refused : {a : Answer} {n : Refusal} (e : List ℕ) (x : ℕ) → a ≡ Err n → x ≡ house_number n → 2 ≤ length e
+    → Tells a e 2 (0x45 ∷ x ∷ drop 2 e)
 unfolding untold told told_length written
-tells-refused {a} {n} e x f g h = record { count = rw f; bytes = rw (f, g) (sets-eq (told (refused n)) e 0 h) }
+tells-refused {a} {n} e x f g h = record { count = rw f; bytes = rw (f, g) }
 
 -- e: the buffer before the call, o: after it, p: with the refusal's mark
 tells-bytes : (a : numbers.Answer) (k : ℕ) (e o p : List ℕ) → o ≡ buffer_after a e → p ≡ written o 0 (untold (answer_of a k))

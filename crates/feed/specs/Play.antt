@@ -1,14 +1,12 @@
 -- One record played: what document 01's card program makes of it, and what the code promises.
-use Rattle.std.specs.Prelude.{◌≡◌, Bool, true, false, cond, List, [], ◌++◌, ℕ, length, drop}
+use Rattle.std.specs.Prelude.{◌≡◌, Ok, Err, Bool, true, false, cond, List, [], ◌++◌, ℕ, length, drop}
 use Rattle.rules.specs.Bytes.{written}
 use Rattle.rules.specs.State.{Splicer}
 use Rattle.rules.specs.Calls.{Call, call}
 use Rattle.rules.specs.HouseNumbers.{refused}
 use Rattle.rules.specs.Card.{Next, calls, ends, stops, next, told}
 use Rattle.memory.specs.Memory.{see, shifted, shown}
-use Rattle.engine.specs.declared.Answer.{Answer}
-use Rattle.engine.specs.declared.Answer.TheVariants.{Refused, Done}
-use Rattle.engine.specs.Lent.{Lent}
+use Rattle.engine.specs.Lent.{Lent, Answer}
 use Rattle.feed.specs.declared.Played.{Played}
 use Rattle.feed.specs.Feed.{record_in, used_by, is_cut, rest}
 
@@ -56,13 +54,13 @@ pub record Plays (at : ℕ) (e : List ℕ) (g : Step) (r : Played) (m b o : List
 
 -- what is still to be written then: only a refusal's bytes, since a good call wrote its own
 unfoldable pub untold : Answer → List ℕ
-untold (Refused n) = told (refused n)
-untold (Done did) = []
+untold (Err n) = told (refused n)
+untold (Ok did) = []
 
 -- how much is written in all
 unfoldable pub told_length : Answer → ℕ
-told_length (Refused n) = length (told (refused n))
-told_length (Done did) = did.written
+told_length (Err n) = length (told (refused n))
+told_length (Ok did) = did.written
 
 -- of the buffer e
 pub record Tells (a : Answer) (e : List ℕ) (len : ℕ) (o : List ℕ) : Type 0 where

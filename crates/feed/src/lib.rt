@@ -12,6 +12,15 @@ pub use playing::play;
 use reading::LONGEST;
 use reading::numbers::{number2, number4};
 
+// The marks that a record begins with. recall_log has its own: the second engine has rules of its own (02, CR 12).
+pub const OPEN_MARK: u8 = 0x4F;
+
+pub const CLOSE_MARK: u8 = 0x43;
+
+pub const MESSAGE_MARK: u8 = 0x4D;
+
+pub const TICK_MARK: u8 = 0x54;
+
 // Where a record ends: an open or a close, a tick, and a message's header, behind which its data stands.
 pub const MARK_END: usize = 2;
 
@@ -31,7 +40,8 @@ pub enum Record {
     Unknown,
 }
 
-// A record played: the bytes that it took, how much was written, and whether to go on.
+// A record played: the bytes that it took, how much was written, and whether to go on. The flag stands beside both numbers: what took bytes
+// may end the run, as an oversize header does, and what took none may wait, as a cut record does.
 #[derive(Clone, Copy)]
 pub struct Played {
     pub used: usize,
@@ -65,35 +75,28 @@ fn take_tick(l: &[u8]) -> Record
 }
 
 // "0x4F connection (open), 0x43 connection (close), 0x4D connection and one message, 0x54 0x00 and Seconds 4, MicroSeconds 4".
+#[tactic(auto, using(crate::proofs::Laws::cut_at, crate::proofs::Laws::record_at))]
 pub fn take(l: &[u8]) -> Record
     ensures { result ≡ record_in l.now }
 {
-    if l.len() < MARK_END {
+    let [mark, conn, ..] = l else {
         return Record::Cut;
+    };
+    match *mark {
+        OPEN_MARK => Record::Open(*conn),
+        CLOSE_MARK => Record::Close(*conn),
+        MESSAGE_MARK => take_message(l),
+        TICK_MARK => take_tick(l),
+        _ => Record::Unknown,
     }
-    let mark = l[0];
-    if mark == 0x4F {
-        return Record::Open(l[1]);
-    }
-    if mark == 0x43 {
-        return Record::Close(l[1]);
-    }
-    if mark == 0x4D {
-        return take_message(l);
-    }
-    if mark == 0x54 {
-        return take_tick(l);
-    }
-    Record::Unknown
 }
 
 // ChannelName is "CH1".
+#[tactic(auto, unfolding(rules::specs::Card::card_name))]
 pub fn channel() -> [u8; 32]
     ensures { result ≡ padded card_name }
 {
     let mut r = [0; 32];
-    r[0] = b'C';
-    r[1] = b'H';
-    r[2] = b'1';
+    r[..3].copy_from_slice(b"CH1");
     r
 }

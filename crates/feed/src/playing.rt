@@ -17,12 +17,11 @@ fn tell(a: Answer, out: &mut [u8]) -> usize
     ensures { Tells a out.old result out.new }
 {
     match a {
-        Answer::Refused(n) => {
-            out[0] = 0x45;
-            out[1] = reply::house_number(n);
+        Err(n) => {
+            out[..2].copy_from_slice(&[0x45, reply::house_number(n)]);
             2
         }
-        Answer::Done(did) => did.written,
+        Ok(did) => did.written,
     }
 }
 
@@ -32,11 +31,7 @@ fn ended(a: Answer, used: usize, more: bool, out: &mut [u8]) -> Played
     ensures { Ended a used more out.old result out.new }
 {
     let len = tell(a, &mut *out);
-    Played {
-        used: used,
-        len: len,
-        more: more,
-    }
+    Played { used, len, more }
 }
 
 // No call is made: a cut record waits for more bytes, and behind another mark nothing follows.
@@ -46,7 +41,7 @@ fn stopped(more: bool) -> Played
     Played {
         used: 0,
         len: 0,
-        more: more,
+        more,
     }
 }
 
@@ -56,9 +51,7 @@ fn message(m: &mut [u64; WORDS], b: &mut [u8], conn: u32, l: &[u8], out: &mut [u
     ensures { Makes (λ room. message_call conn l.now (lending room)) m.old b.old out.old result
         m.new b.new out.new }
 {
-    let none = [0u8; 1];
-    let e = &none[..0];
-    engine::message(&mut *m, &mut *b, conn, l, e, &mut *out)
+    engine::message(&mut *m, &mut *b, conn, l, &[], &mut *out)
 }
 
 // The call of a record that l begins with, and what the card program writes for it: more says whether the program goes on.

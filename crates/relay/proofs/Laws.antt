@@ -8,6 +8,8 @@ use native.Mathlib.Omega.{arith}
 use native.Mathlib.Numerals.{add-one}
 use lib.ListN.{length, get_or}
 use borrow.Rule.Slice.PartMut.{put_mid, mid_of}
+use denote.Enum.Bare.{sameb}
+use Rattle.rules.specs.contracts.Link.{the_type}
 use Rattle.rules.specs.declared.Link.{Link}
 use Rattle.rules.specs.declared.Link.TheVariants.{Closed, Opened, Initialised}
 use Rattle.rules.specs.declared.Cue.{Cue}
@@ -57,11 +59,11 @@ module _ (links : List Link) (n : ℕ) where
       keep-next (λ c. is_initialised (get_or links c Closed)) n ∙ ap (λ (b : Bool). first links n ++ put b n []) e
       ∙ append-nil (first links n)
 
--- the second way of `if let Link::Initialised`
-pub not-initialised : (a : Link) → (a ≡ Initialised → ⊥) → is_initialised a ≡ false
-not-initialised Closed n = refl
-not-initialised Opened n = refl
-not-initialised Initialised n = absurd (n refl)
+-- the comparison in `tell`
+pub same-initialised : (a : Link) → sameb the_type a Initialised ≡ is_initialised a
+same-initialised Closed = refl
+same-initialised Opened = refl
+same-initialised Initialised = refl
 
 -- ## One connection
 

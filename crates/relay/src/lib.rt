@@ -21,6 +21,7 @@ pub struct Anchor {
 }
 
 // What a connection gets, behind what is written up to len.
+// `out` and `len` stay two, as in ends.
 fn write_cue(
     cue: Cue,
     time: WireTime,
@@ -49,13 +50,10 @@ fn tell(m: &[u64; WORDS], cue: Cue, time: WireTime, section: &[u8], out: &mut [u
         result out.new }
 {
     let mut len = 0;
-    let mut conn = 0;
-    while conn < 4 {
-        let link = memory::link(m, conn);
-        if let Link::Initialised = link {
+    for conn in 0..4 {
+        if memory::link(m, conn) == Link::Initialised {
             len = write_cue(cue, time, section, conn, &mut *out, len);
         }
-        conn += 1;
     }
     len
 }

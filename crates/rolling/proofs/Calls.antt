@@ -1,21 +1,18 @@
 -- What each call's proof says of its own paths: the refusals in their order, and the words after a call that is done.
 -- Rests on what holds of every rolling splicer that this card's fresh and calls have given (proofs/Ruled).
-use Rattle.std.proofs.Common.{◌≡◌, ℕ, ◌+◌, ◌*◌, ◌%◌, ◌<◌, ◌≤◌, Bool, true, false, cond, eqb, List, [], ◌∷◌, length, get_or, sym, refl, ap}
+use Rattle.std.proofs.Common.{◌≡◌, ℕ, ◌<◌, ◌≤◌, Bool, true, false, cond, List, [], ◌∷◌, length, get_or, sym, refl, ap}
 use Rattle.std.proofs.Common.{◌∙◌, subst, arith, le-ltb, lt-ltb, ne_eqb, le-leb}
 use borrow.Author.Tests.{lt-leb}
 use Rattle.rules.specs.declared.Ninths.{Ninths}
-use Rattle.rules.specs.declared.When.{When}
-use Rattle.rules.specs.declared.When.TheVariants.{At, Never}
 use Rattle.rules.specs.declared.Refusal.{Refusal}
 use Rattle.rules.specs.declared.Refusal.TheVariants.{NoRoom, BadMicros, Counter}
 use Rattle.rules.specs.Lists.{All}
 use Rattle.rules.specs.Units.{time_of, from_micros}
 use Rattle.rules.specs.Follows.Wires.{Byte}
-use Rattle.rules.specs.State.{Splicer}
 use Rattle.rules.specs.HouseNumbers.{Called}
 use Rattle.rules.specs.Calls.{fresh, move_call}
 use Rattle.rules.specs.Units.{horizon}
-use Rattle.rules.specs.Rolling.{Last, none, at, Rolling, Rolled, rollover, step_of, over_step, moved_on, past_field, is_given, Course}
+use Rattle.rules.specs.Rolling.{Last, none, at, Rolling, Rolled, step_of, over_step, moved_on, past_field, is_given, Course}
 use Rattle.rules.specs.Follows.Sequences.{rolling_of}
 use Rattle.rules.specs.Rolling.{refuses, brings, instant_course, step_course, reading_course, rolls, instant_call, reading_call}
 use Rattle.rules.specs.Follows.Sequences.{rolling_fresh}
@@ -23,9 +20,8 @@ use Rattle.rules.specs.Rolling.{RollingCall, instants, readings, roll}
 use Rattle.rules.specs.Follows.Sequences.{RollWired, RollReached}
 use Rattle.rules.proofs.Sound.{reached-sound}
 use Rattle.memory.specs.Memory.{see, shown}
-use Rattle.engine.specs.declared.Answer.{Answer}
-use Rattle.engine.specs.declared.Answer.TheVariants.{Refused}
-use Rattle.engine.specs.Lent.{Lent, Answers}
+use Rattle.std.specs.Prelude.{Option, Some, None, Err}
+use Rattle.engine.specs.Lent.{Lent, Answer, Answers}
 use Rattle.engine.proofs.Calls.{refused_as}
 use Rattle.rolling.specs.LentRolling.{counter_of, last_of, rolling, LentRolling, when_of, Rolls, Turns}
 use Rattle.rolling.proofs.Ruled.{Steady, move_same, reached-steady, reached-known, reached-fresh, reached-roll, step-ahead}
@@ -69,7 +65,7 @@ some-low {m} {b} {k} l e = rw (some_read k e) at (lent-steady l)
 
 module _ {m b k e : List ℕ} (l : LentRolling m b k) where
   pub refused-rolls : (c : Rolled) (n : Refusal) (x : ℕ) → c ≡ rolls (refuses n) x (rolling m b k)
-      → Rolls c (see m).ring_end e (Refused n) m b k e
+      → Rolls c (see m).ring_end e (Err n) m b k e
   unfolding rolls
   refused-rolls c n x f =
       record {
@@ -144,14 +140,14 @@ module _ (seconds micros reading room : ℕ) (r : Rolling) where
   instant-good h i g = rw (le-ltb room 4096 h, le-ltb 999999 micros i, g)
 
 module _ {m b k e : List ℕ} (seconds micros reading : ℕ) (l : LentRolling m b k) where
-  pub instant-small : length e < 4096 → Turns (instant_call seconds micros reading) m b k e (Refused NoRoom) m b k e
+  pub instant-small : length e < 4096 → Turns (instant_call seconds micros reading) m b k e (Err NoRoom) m b k e
   instant-small h = refused-rolls l _ NoRoom reading (instant-none seconds micros reading (length e) (rolling m b k) h)
 
-  pub instant-micros : 4096 ≤ length e → 999999 < micros → Turns (instant_call seconds micros reading) m b k e (Refused BadMicros) m b k e
+  pub instant-micros : 4096 ≤ length e → 999999 < micros → Turns (instant_call seconds micros reading) m b k e (Err BadMicros) m b k e
   instant-micros h i = refused-rolls l _ BadMicros reading (instant-over seconds micros reading (length e) (rolling m b k) h i)
 
   pub instant-second : 4096 ≤ length e → micros ≤ 999999 → (get_or k 0 0 ≡ 0 → ⊥)
-      → Turns (instant_call seconds micros reading) m b k e (Refused Counter) m b k e
+      → Turns (instant_call seconds micros reading) m b k e (Err Counter) m b k e
   instant-second h i g =
       refused-rolls l _ Counter reading (instant-again seconds micros reading (length e) (rolling m b k) h i (ap is_given (some_read k g)))
 
@@ -171,34 +167,29 @@ module _ {m b k e : List ℕ} (seconds micros reading : ℕ) (l : LentRolling m 
 
 -- ## A reading
 
--- what the wrapping subtract promises determines the step
-pub step_back : (r last reading : ℕ) → r < 4294967296 → last < 4294967296 → (r + last) % 4294967296 ≡ reading → r ≡ step_of last reading
-unfolding step_of
-step_back r last reading a b e = omega arith
-
 module _ (clock last reading : ℕ) where
-  pub step_over : 8100000 < step_of last reading → Never ≡ when_of (step_course clock reading (at last))
+  pub step_over : 8100000 < step_of last reading → None ≡ when_of (step_course clock reading (at last))
   unfolding step_course when_of
   step_over h = rw (lt-ltb 8100000 (step_of last reading) h)
 
   pub step_past : step_of last reading ≤ 8100000 → horizon ≤ moved_on clock last reading
-      → Never ≡ when_of (step_course clock reading (at last))
+      → None ≡ when_of (step_course clock reading (at last))
   unfolding step_course when_of
   step_past h i = rw (le-ltb 8100000 (step_of last reading) h, le-leb horizon (moved_on clock last reading) i)
 
   pub step-good : step_of last reading ≤ 8100000 → moved_on clock last reading < horizon
-      → At (record { 0 = moved_on clock last reading }) ≡ when_of (step_course clock reading (at last))
+      → Some (record { 0 = moved_on clock last reading }) ≡ when_of (step_course clock reading (at last))
   unfolding step_course when_of
   step-good h i = rw (le-ltb 8100000 (step_of last reading) h, lt-leb horizon (moved_on clock last reading) i)
 
 -- the course that an instant, or none, stands for
-course-never : (clock reading : ℕ) (l : Last) → when_of (step_course clock reading l) ≡ Never
+course-never : (clock reading : ℕ) (l : Last) → when_of (step_course clock reading l) ≡ None
     → step_course clock reading l ≡ refuses Counter
 unfolding step_course when_of
 course-never clock reading none e = refl
 course-never clock reading (at last) e = go (over_step last reading) (past_field (moved_on clock last reading)) e
   where
-    go : (a b : Bool) → when_of (cond a (refuses Counter) (cond b (refuses Counter) (brings (moved_on clock last reading)))) ≡ Never
+    go : (a b : Bool) → when_of (cond a (refuses Counter) (cond b (refuses Counter) (brings (moved_on clock last reading)))) ≡ None
         → cond a (refuses Counter) (cond b (refuses Counter) (brings (moved_on clock last reading))) ≡ refuses Counter
     go true b f = refl
     go false true f = refl
@@ -208,7 +199,7 @@ course-none : (clock reading : ℕ) → step_course clock reading none ≡ refus
 unfolding step_course
 course-none clock reading = refl
 
-course-at : (c : Course) (t : Ninths) → when_of c ≡ At t → c ≡ brings t.0
+course-at : (c : Course) (t : Ninths) → when_of c ≡ Some t → c ≡ brings t.0
 unfolding when_of
 course-at (refuses n) t e = let z : ◌≡◌ {A = ℕ} 0 1 = cc in absurd (omega arith)
 course-at (brings until) t e = cc
@@ -230,34 +221,34 @@ module _ (m k : List ℕ) (reading : ℕ) (clock : Ninths) (g : get_or k 0 0 ≡
   course = λ n. step_course (sym now n) reading (some_read k g n)
 
   -- t: where the reading brings the clock
-  brought : (t : Ninths) {w : When} → w ≡ when_of (step_course clock.0 reading (at (get_or k 1 0))) → w ≡ At t
+  brought : (t : Ninths) {w : Option Ninths} → w ≡ when_of (step_course clock.0 reading (at (get_or k 1 0))) → w ≡ Some t
       → step_course (see m).clock reading (last_of k) ≡ brings t.0
   brought t f n = course ∙ course-at _ t (sym f ∙ n)
 
-  pub reading-early : (t : Ninths) {w : When} → w ≡ when_of (step_course clock.0 reading (at (get_or k 1 0))) → w ≡ At t
+  pub reading-early : (t : Ninths) {w : Option Ninths} → w ≡ when_of (step_course clock.0 reading (at (get_or k 1 0))) → w ≡ Some t
       → ((see m).clock ≤ t.0) × (t.0 < horizon)
   reading-early t f n = step-ahead (see m).clock reading (last_of k) t.0 (brought t f n)
 
 module _ {m b k e : List ℕ} (reading : ℕ) (l : LentRolling m b k) where
-  pub reading_small : length e < 4096 → Turns (reading_call reading) m b k e (Refused NoRoom) m b k e
+  pub reading_small : length e < 4096 → Turns (reading_call reading) m b k e (Err NoRoom) m b k e
   reading_small h = refused-rolls l _ NoRoom reading (reading-none reading (length e) (rolling m b k) h)
 
-  pub reading-before : 4096 ≤ length e → get_or k 0 0 ≡ 0 → Turns (reading_call reading) m b k e (Refused Counter) m b k e
+  pub reading-before : 4096 ≤ length e → get_or k 0 0 ≡ 0 → Turns (reading_call reading) m b k e (Err Counter) m b k e
   reading-before h g =
       refused-rolls l _ Counter reading
       (reading-course reading (length e) (rolling m b k) (refuses Counter) h
       (ap (step_course (see m).clock reading) (none_read k g) ∙ course-none (see m).clock reading))
 
   module _ (clock : Ninths) (h : 4096 ≤ length e) (g : get_or k 0 0 ≡ 0 → ⊥) (now : clock.0 ≡ (see m).clock) where
-    pub reading-never : {w : When} → w ≡ when_of (step_course clock.0 reading (at (get_or k 1 0))) → w ≡ Never
-        → Turns (reading_call reading) m b k e (Refused Counter) m b k e
+    pub reading-never : {w : Option Ninths} → w ≡ when_of (step_course clock.0 reading (at (get_or k 1 0))) → w ≡ None
+        → Turns (reading_call reading) m b k e (Err Counter) m b k e
     reading-never f n =
         refused-rolls l _ Counter reading
         (reading-course reading (length e) (rolling m b k) (refuses Counter) h
         (course m k reading clock g now ∙ course-never clock.0 reading (at (get_or k 1 0)) (sym f ∙ n)))
 
-    pub reading-done : (t : Ninths) {w : When} {r : Answer} {v c k' o : List ℕ}
-        → w ≡ when_of (step_course clock.0 reading (at (get_or k 1 0))) → w ≡ At t
+    pub reading-done : (t : Ninths) {w : Option Ninths} {r : Answer} {v c k' o : List ℕ}
+        → w ≡ when_of (step_course clock.0 reading (at (get_or k 1 0))) → w ≡ Some t
         → reading < 4294967296 → Answers (move_call t.0 (length e) (shown m b)) (see m).ring_end e r v c o → k' ≡ 1 ∷ reading ∷ []
         → Turns (reading_call reading) m b k e r v c k' o
     unfolding roll

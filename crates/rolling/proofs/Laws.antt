@@ -1,22 +1,21 @@
 -- Each promise determines its result, the counter's words too, and a refusal leaves everything as it was; each call's number is the first
 -- of its order. Rests on engine's answers-same and on proofs/Ruled.
-use Rattle.std.proofs.Common.{◌≡◌, ℕ, ◌<◌, Bool, true, false, cond, not, List, [], ◌∷◌, sym, refl, ap, ◌∙◌, arith}
+use Rattle.std.proofs.Common.{◌≡◌, ℕ, Bool, true, false, cond, not, List, sym, refl, ◌∙◌, arith}
 use Rattle.rules.specs.declared.Refusal.{Refusal}
 use Rattle.rules.specs.declared.Refusal.TheVariants.{NoRoom, BadMicros, Counter}
 use Rattle.rules.specs.Units.{bad_micros, time_of, from_micros}
-use Rattle.rules.specs.HouseNumbers.{refused, good, house_number, no_room}
-use Rattle.rules.specs.Calls.{ticked, call}
-use Rattle.rules.specs.Rolling.{Last, none, at, Rolling, Rolled, rollover, over_step, moved_on, past_field, is_given, Course, refuses}
+use Rattle.rules.specs.HouseNumbers.{refused, house_number, no_room}
+use Rattle.rules.specs.Calls.{ticked}
+use Rattle.rules.specs.Rolling.{Last, none, at, Rolling, Rolled, over_step, moved_on, past_field, is_given, Course, refuses}
 use Rattle.rules.specs.Rolling.{brings}
 use Rattle.rules.specs.Rolling.{instant_course, step_course, reading_course, rolls, instant_call, reading_call, RollingCall, known}
 use Rattle.rules.specs.Rolling.{instants}
 use Rattle.rules.specs.Rolling.{readings, roll}
-use Rattle.rules.specs.Follows.Sequences.{RollWired}
 use Rattle.demands.specs.Told.{first_number, number_of}
 use Rattle.demands.proofs.Refusals.{first-number}
-use Rattle.memory.specs.Memory.{see, shown}
-use Rattle.engine.specs.declared.Answer.{Answer}
-use Rattle.engine.specs.declared.Answer.TheVariants.{Refused}
+use Rattle.memory.specs.Memory.{see}
+use Rattle.engine.specs.Lent.{Answer}
+use Rattle.std.specs.Prelude.{Err}
 use Rattle.engine.proofs.Laws.{answers-same, call-refused, refused-answer}
 use Rattle.rolling.specs.LentRolling.{rolling, LentRolling, Rolls}
 use Rattle.rolling.specs.Ruled.{last_in, roll_checks}
@@ -47,11 +46,11 @@ module _ (n : Refusal) (r : Rolling) where
 
 -- of every result that a contract allows: the words, the bytes, the counter's words and the buffer are as they were
 pub refused-unchanged : (j : RollingCall) (n : Refusal) (m b k e : List ℕ) (r : Answer) (v c k' o : List ℕ) → LentRolling m b k
-    → Rolls (roll j (rolling m b k)) (see m).ring_end e r v c k' o → r ≡ Refused n → (v ≡ m) × (c ≡ b) × (k' ≡ k) × (o ≡ e)
+    → Rolls (roll j (rolling m b k)) (see m).ring_end e r v c k' o → r ≡ Err n → (v ≡ m) × (c ≡ b) × (k' ≡ k) × (o ≡ e)
 refused-unchanged j n m b k e r v c k' o l a f =
     let x = roll j (rolling m b k) in
     let q = roll-refused n (rolling m b k) j 0 (refused-answer x.called.answer x.called.moved n (sym f ∙ a.answers.answer)) in
-    let z = rolls-same x (see m).ring_end e r (Refused n) v c k' o m b k e a (refused-rolls l x n 0 q) in
+    let z = rolls-same x (see m).ring_end e r (Err n) v c k' o m b k e a (refused-rolls l x n 0 q) in
     (z.1, z.2, z.3, z.4)
 
 -- ## "A bad call gets its number"

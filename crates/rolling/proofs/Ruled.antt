@@ -1,15 +1,14 @@
 -- Each call of this card is one of document 01's, or is refused and changes nothing. Rests on demands' call-clock, that open, close and
 -- message leave the clock, so that it is 0 until the instant is given.
-use Rattle.std.proofs.Common.{◌≡◌, ℕ, ◌+◌, ◌*◌, ◌<◌, ◌≤◌, Bool, true, false, cond, List, [], ◌∷◌, ◌++◌, length, sym, refl, ap, ◌∙◌, subst}
+use Rattle.std.proofs.Common.{◌≡◌, ℕ, ◌<◌, ◌≤◌, Bool, true, false, cond, List, [], ◌∷◌, ◌++◌, length, sym, refl, ap, ◌∙◌}
 use Rattle.std.proofs.Common.{ap₂, arith, ltb-false, le-ltb, leb-false}
-use Rattle.rules.specs.declared.Refusal.{Refusal}
 use Rattle.rules.specs.declared.Refusal.TheVariants.{NoRoom, BadMicros, Counter}
 use Rattle.rules.specs.Lists.{All}
 use Rattle.rules.specs.Units.{time_of, bad_micros, from_micros}
 use Rattle.rules.specs.Follows.Wires.{Byte}
 use Rattle.rules.specs.State.{Splicer}
-use Rattle.rules.specs.HouseNumbers.{Called, no_room}
-use Rattle.rules.specs.Calls.{fresh, ticked, move_call, Call, opens, closes, messages, ticks, moves, cues, call, after}
+use Rattle.rules.specs.HouseNumbers.{no_room}
+use Rattle.rules.specs.Calls.{ticked, move_call, Call, opens, closes, messages, ticks, moves, cues, call, after}
 use Rattle.rules.specs.Follows.Sequences.{answers}
 use Rattle.rules.specs.Follows.Sound.{Wired, Reached}
 use Rattle.rules.specs.Units.{horizon}
@@ -18,7 +17,7 @@ use Rattle.rules.specs.Follows.Sequences.{rolling_of}
 use Rattle.rules.specs.Rolling.{brings, instant_course, step_course, reading_course, rolls, instant_call, reading_call}
 use Rattle.rules.specs.Follows.Sequences.{rolling_fresh, Timeless}
 use Rattle.rules.specs.Rolling.{RollingCall, known, instants, readings, roll}
-use Rattle.rules.specs.Follows.Sequences.{rolled_after, as_move, as_calls, as_moves, said, roll_answers}
+use Rattle.rules.specs.Follows.Sequences.{rolled_after, as_move, as_calls, as_moves, roll_answers}
 use Rattle.rules.specs.Follows.Sequences.{RollWired, RollReached}
 use Rattle.rules.proofs.All.{all_append}
 use Rattle.demands.specs.History.{Reply, refusal, wrote, reply_of, clock_replied}

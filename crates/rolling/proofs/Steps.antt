@@ -1,9 +1,9 @@
 -- After how many ticks of the counter a reading would do anything, from the words of the engine's read. Rests on demands' proofs/Due.
-use Rattle.std.proofs.Common.{◌≡◌, ℕ, ◌+◌, ◌-◌, ◌*◌, ◌<◌, ◌≤◌, true, false, cond, eqb, ltb, List, [], ◌∷◌, get_or, sym, refl, ap, ◌∙◌}
+use Rattle.std.proofs.Common.{◌≡◌, ℕ, ◌+◌, ◌-◌, ◌*◌, ◌<◌, ◌≤◌, cond, eqb, List, [], ◌∷◌, get_or, sym, refl, ap, ◌∙◌}
 use Rattle.std.proofs.Common.{subst, arith, le-ltb, lt-ltb, ne_eqb, le-leb}
 use borrow.Author.Tests.{lt-leb}
-use Rattle.rules.specs.declared.When.{When}
-use Rattle.rules.specs.declared.When.TheVariants.{At, Never}
+use Rattle.std.specs.Prelude.{Option, Some, None}
+use Rattle.rules.specs.declared.Ninths.{Ninths}
 use Rattle.rules.specs.Units.{up_ticks}
 use Rattle.rules.specs.State.{due}
 use Rattle.rules.specs.Calls.{beyond, due_row}
@@ -17,22 +17,22 @@ use Rattle.memory.specs.Memory.{see, shown}
 use Rattle.engine.specs.Lent.{Lent, ReadsDue}
 use Rattle.rolling.specs.LentRolling.{last_of, ReadsStep}
 
-step-ungiven : (clock : ℕ) (w : When) → 0 ∷ 8100000 ∷ [] ≡ step_row none clock w
+step-ungiven : (clock : ℕ) (w : Option Ninths) → 0 ∷ 8100000 ∷ [] ≡ step_row none clock w
 unfolding step_row
 step-ungiven clock w = refl
 
-step-none : (k : Last) (clock : ℕ) (w : When) → get_or (due_row w) 0 0 ≡ 0 → 0 ∷ 8100000 ∷ [] ≡ step_row k clock w
+step-none : (k : Last) (clock : ℕ) (w : Option Ninths) → get_or (due_row w) 0 0 ≡ 0 → 0 ∷ 8100000 ∷ [] ≡ step_row k clock w
 unfolding due_row step_row
 step-none none clock w e = refl
-step-none (at x) clock Never e = refl
-step-none (at x) clock (At t) e =
+step-none (at x) clock None e = refl
+step-none (at x) clock (Some t) e =
     absurd (by (λ (r : List ℕ). get_or r 0 0 ≡ 0 → ⊥) (beyond t.0) _ _ (λ f i. omega (arith, i)) (λ f i. omega (arith, i)) e)
 
-step-some : (x clock : ℕ) (w : When) → (get_or (due_row w) 0 0 ≡ 0 → ⊥)
+step-some : (x clock : ℕ) (w : Option Ninths) → (get_or (due_row w) 0 0 ≡ 0 → ⊥)
     → step_row (at x) clock w ≡ within clock (up_ticks (get_or (due_row w) 1 0 - clock))
 unfolding due_row step_row
-step-some x clock Never e = absurd (e refl)
-step-some x clock (At t) e =
+step-some x clock None e = absurd (e refl)
+step-some x clock (Some t) e =
     by (λ (r : List ℕ). within clock (up_ticks (t.0 - clock)) ≡ within clock (up_ticks (get_or r 1 0 - clock))) (beyond t.0) _ _
     (λ f. refl) (λ f. refl)
 

@@ -8,9 +8,9 @@ use Rattle.rules.specs.Units.{time_of, from_micros}
 use Rattle.rules.specs.HouseNumbers.{house_number, lending}
 use Rattle.rules.specs.Calls.{ticked, Call, opens, closes, messages, cues}
 use Rattle.rules.specs.Units.{horizon}
-use Rattle.rules.specs.Rolling.{Last, none, at, Rolling, rollover, step_of, brings, instant_course, step_course, reading_course}
+use Rattle.rules.specs.Rolling.{none, at, Rolling, rollover, step_of, brings, instant_course, step_course, reading_course}
 use Rattle.rules.specs.Follows.Sequences.{rolling_of}
-use Rattle.rules.specs.Rolling.{rolls, instant_call, reading_call, RollingCall, known, instants, readings, roll}
+use Rattle.rules.specs.Rolling.{rolls, instant_call, reading_call, known, instants, readings, roll}
 use Rattle.rules.specs.Follows.Sequences.{rolling_fresh, Timeless}
 use Rattle.rules.specs.Follows.Sequences.{rolled_after}
 use Rattle.rules.proofs.Timeless.{NoTime, timeless-has-none, none-is-timeless}

@@ -1,13 +1,11 @@
 -- What the calls of the card with a rolling counter may rely on, and what they promise.
-use Rattle.std.specs.Prelude.{◌≡◌, ℕ, cond, List, [], ◌∷◌, length, ◌==◌, slice_index}
-use Rattle.rules.specs.declared.When.{When}
-use Rattle.rules.specs.declared.When.TheVariants.{At, Never}
+use Rattle.std.specs.Prelude.{◌≡◌, ℕ, Option, Some, None, cond, List, [], ◌∷◌, length, ◌==◌, slice_index}
+use Rattle.rules.specs.declared.Ninths.{Ninths}
 use Rattle.rules.specs.State.{due}
 use Rattle.rules.specs.Rolling.{Last, none, at, Rolling, Rolled, Course, refuses, brings, step_row}
 use Rattle.rules.specs.Follows.Sequences.{RollReached}
 use Rattle.memory.specs.Memory.{see, Whole, shown}
-use Rattle.engine.specs.declared.Answer.{Answer}
-use Rattle.engine.specs.Lent.{Answers}
+use Rattle.engine.specs.Lent.{Answer, Answers}
 
 -- the counter's two words: whether the instant was given, and the last reading, 0 before
 unfoldable pub counter_of : Last → List ℕ
@@ -39,9 +37,9 @@ abbrev pub Turns : (ℕ → Rolling → Rolled) → (m b k e : List ℕ) → Ans
 Turns f m b k e r n c j o = Rolls (f (length e) (rolling m b k)) (see m).ring_end e r n c j o
 
 -- the instant that a course brings the clock to
-unfoldable pub when_of : Course → When
-when_of (refuses n) = Never
-when_of (brings until) = At (record { 0 = until })
+unfoldable pub when_of : Course → Option Ninths
+when_of (refuses n) = None
+when_of (brings until) = Some (record { 0 = until })
 
 -- after how many ticks of the counter a reading would do anything, as it is read of the memory m and b and the words k in two words r
 abbrev pub ReadsStep : (m b k r : List ℕ) → Type 0

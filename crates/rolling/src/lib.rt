@@ -1,6 +1,6 @@
 // The card with a rolling counter: an instant and readings in place of ticks (02, CR 9).
 // Beside the splicer's memory the caller lends two words: whether the instant was given, and the last reading. Open, close and
-// message are the engine's.
+// message are the engine's. The words stay words, and `due` answers in two: C lends and reads them, and LentRolling and ReadsStep say them.
 #![tactic(auto)]
 
 ghost use Rattle.std.specs.Prelude.{◌≡◌, ◌<◌, []};
@@ -15,7 +15,16 @@ ghost use Rattle.rolling.specs.LentRolling.{LentRolling, when_of, Rolls, Turns, 
 
 use engine::Answer;
 use memory::{BYTES, WORDS};
-use rules::{Ninths, Refusal, Ticks, When};
+use rules::{Ninths, Refusal, Ticks};
+
+// "none more than 8,100,000 after the one before".
+const LONGEST_STEP: u32 = 8100000;
+
+// The first instant behind the time field's last second.
+const HORIZON: u64 = 38654705664000000;
+
+// What `due` answers where no reading that is good does anything.
+const NOTHING_DUE: [u64; 2] = [0, LONGEST_STEP as u64];
 
 // What is given once: a UTC instant, and the counter's reading at it.
 #[derive(Clone, Copy)]
@@ -23,14 +32,6 @@ pub struct Given {
     pub seconds: u32,
     pub micros: u32,
     pub reading: u32,
-}
-
-// Whether the name has its zero. Of a slice, since only of a slice is it known that its elements are bytes.
-fn is_ended(name: &[u8]) -> bool
-    ensures value { result ≡ has_zero name.now }
-    ensures bytes { All Byte name.now }
-{
-    reading::names::has_zero(name)
 }
 
 // The engine's fresh; no instant was given.
@@ -42,35 +43,34 @@ pub fn fresh(
 ) -> Answer
     ensures { Rolls (rolling_fresh name.now) 0 [] result m.new b.new counter.new [] }
 {
-    // called for its promise alone, that the name is bytes, which no array's type says; whether it has its zero the engine asks
-    is_ended(name);
     let a = engine::fresh(name, &mut *m, &mut *b);
     *counter = [0, 0];
     a
 }
 
 // 01's form: "wrapping subtract on the u32 counter gives the step".
+#[tactic(auto, unfolding(rules::specs::Rolling::step_of))]
 fn step(last: u32, reading: u32) -> u32
     ensures { result ≡ step_of last reading }
 {
-    std::num::wrapping_sub_u32(reading, last)
+    reading.wrapping_sub(last)
 }
 
 // Where a reading brings the clock; never, if the step is over 8,100,000 ticks or past the time field's last second.
 #[tactic(auto, using(crate::proofs::Calls::step_over))]
-fn reached(clock: Ninths, last: u32, reading: u32) -> When
+fn reached(clock: Ninths, last: u32, reading: u32) -> Option<Ninths>
     requires { clock.0 < horizon }
     ensures { result ≡ when_of (step_course clock.0 reading (at last)) }
 {
     let d = step(last, reading);
-    if 8100000 < d {
-        return When::Never;
+    if LONGEST_STEP < d {
+        return None;
     }
     let until = clock.0 + units::from_ticks(Ticks(d)).0;
-    if 38654705664000000 <= until {
-        return When::Never;
+    if HORIZON <= until {
+        return None;
     }
-    When::At(Ninths(until))
+    Some(Ninths(until))
 }
 
 // The instant: 2, 8, 12.
@@ -85,18 +85,16 @@ pub fn instant(
     ensures { Turns (instant_call given.seconds given.micros given.reading) m.old b.old counter.old
         out.old result m.new b.new counter.new out.new }
 {
-    if out.len() < 4096 {
-        return Answer::Refused(Refusal::NoRoom);
-    }
-    if 999999 < given.micros {
-        return Answer::Refused(Refusal::BadMicros);
-    }
+    engine::test_room(out.len())?;
+    engine::test_micros(given.micros)?;
     if counter[0] != 0 {
-        return Answer::Refused(Refusal::Counter);
+        return Err(Refusal::Counter);
     }
+    // the words after it, made first: with them the proof knows how wide what was given is
+    let told = [1, given.reading as u64];
     let until = units::from_micros(units::time_of(given.seconds, given.micros));
     let a = engine::bring_to(&mut *m, &mut *b, until, &mut *out);
-    *counter = [1, given.reading as u64];
+    *counter = told;
     a
 }
 
@@ -112,16 +110,12 @@ pub fn reading(
     ensures { Turns (reading_call reading) m.old b.old counter.old out.old result
         m.new b.new counter.new out.new }
 {
-    if out.len() < 4096 {
-        return Answer::Refused(Refusal::NoRoom);
-    }
+    engine::test_room(out.len())?;
     if counter[0] == 0 {
-        return Answer::Refused(Refusal::Counter);
+        return Err(Refusal::Counter);
     }
     let clock = memory::clock(&*m);
-    let When::At(until) = reached(clock, counter[1] as u32, reading) else {
-        return Answer::Refused(Refusal::Counter);
-    };
+    let until = reached(clock, counter[1] as u32, reading).ok_or(Refusal::Counter)?;
     let a = engine::bring_to(&mut *m, &mut *b, until, &mut *out);
     *counter = [1, reading as u64];
     a
@@ -135,19 +129,16 @@ pub fn due(m: &[u64; WORDS], b: &[u8], counter: &[u64; 2]) -> [u64; 2]
 {
     let given = counter[0];
     if given == 0 {
-        return [0, 8100000];
+        return NOTHING_DUE;
     }
     let next = engine::due(m, b);
     if next[0] == 0 {
-        return [0, 8100000];
+        return NOTHING_DUE;
     }
     let clock = memory::clock(m);
     let n = units::up_ticks(Ninths(next[1] - clock.0));
-    if 8100000 < n {
-        return [0, 8100000];
-    }
-    if 38654705664000000 <= clock.0 + n * 100 {
-        return [0, 8100000];
+    if (LONGEST_STEP as u64) < n || HORIZON <= clock.0 + n * 100 {
+        return NOTHING_DUE;
     }
     [1, n]
 }

@@ -2,7 +2,6 @@
 use mathlib.Core.Path.{sym, ◌∙◌}
 use Rattle.memory.specs.Memory.{shown}
 use Rattle.engine.proofs.Drivers.{air-silent}
-use borrow.Author.Rules.{rules}
 use Rattle.door.proofs.splicer_7_air.Goals as goal
 
 pub returns-then-on_air-eq0 : goal.returns-then-on_air-eq0

@@ -5,7 +5,6 @@ use Rattle.rules.specs.Calls.{cue_call}
 use Rattle.memory.specs.Memory.{see, shown}
 use Rattle.relay.specs.declared.Anchor.{Anchor}
 use Rattle.engine.specs.Lent.{Answers}
-use borrow.Author.Rules.{rules}
 use Rattle.door.proofs.splicer_7_cue.Goals as goal
 
 pub returns : goal.returns

@@ -1,5 +1,5 @@
--- A row more is one `set` more (`one-filled`), and rows that are filled are as many. Rests on what rows promises.
-use Rattle.std.proofs.Common.{◌≡◌, ℕ, ◌+◌, List, set, refl, arith, add-one}
+-- A row more is one `set` more (`one-filled`). Rests on what rows promises.
+use Rattle.std.proofs.Common.{◌≡◌, ℕ, ◌+◌, List, set, refl, add-one}
 use Rattle.rows.specs.declared.Row.{Row}
 use Rattle.rows.specs.Rows.{row_at, filled}
 use Rattle.door.proofs.splicer_7_ended.Goals as goal
@@ -13,14 +13,8 @@ unfolding filled
 one-filled i f l = rw add-one refl
 
 pub loop-i-init : goal.loop-i-init
-loop-i-init c =
-    record { among = omega arith; all = c.to_fill-n.ensures; filled = none-filled (row_at c.args.ended.now) c.args.page.now }
+loop-i-init c = none-filled (row_at c.args.ended.now) c.args.page.now
 
 pub loop-i-preserved : goal.loop-i-preserved
 loop-i-preserved c =
-    let v = c.loop-i.invariant in
-    record {
-      among = omega (arith, c.loop-i-test.true);
-      all = v.all;
-      filled = rw (v.filled, c.row_at-r.ensures) (one-filled c.loop-i.i (row_at c.args.ended.now) c.args.page.now);
-    }
+    rw (c.loop-i.invariant, c.row_at.ensures) (one-filled c.loop-i.i (row_at c.args.ended.now) c.args.page.now)

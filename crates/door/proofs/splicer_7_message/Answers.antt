@@ -3,7 +3,6 @@ use mathlib.Core.Path.{ap, ◌∙◌}
 use lib.ListN.{length}
 use Rattle.memory.specs.Memory.{see}
 use Rattle.engine.proofs.Maps.{needed_of, makes_one}
-use borrow.Author.Rules.{rules}
 use Rattle.door.proofs.splicer_7_message.Goals as goal
 
 pub returns : goal.returns

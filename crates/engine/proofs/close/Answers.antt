@@ -2,23 +2,22 @@
 use Rattle.rules.specs.Calls.{close_call}
 use mathlib.Core.Path.{sym, ◌∙◌}
 use lib.ListN.{length}
+use Rattle.std.proofs.lemmas.Result.{err_from_is_err_and}
 use Rattle.ends.proofs.Laws.{playable}
 use Rattle.memory.specs.declared.Which.TheVariants.{Started}
 use Rattle.memory.specs.Memory.{see}
 use Rattle.engine.proofs.Calls.{holding, room-all, test-past, guard-refused, close-done}
-use borrow.Author.Rules.{rules}
 use Rattle.engine.proofs.close.Goals as goal
 
-pub returns-in-Bad : goal.returns-in-Bad
+pub returns-in_err-test_open : goal.returns-in_err-test_open
 unfolding close_call
-returns-in-Bad c =
-    let test-open = c.test_open-test in
-    guard-refused c.args.conn _ c.in-Bad.n c.requires test-open.ensures c.in-Bad.is
+returns-in_err-test_open c =
+    let p = err_from_is_err_and c.from_residual.result c.from_residual.ensures.1 in
+    rw (p.1, p.2) (guard-refused c.args.conn _ c.in_err-test_open.field-0.0 c.requires c.test_open.ensures c.in_err-test_open.was)
 
 pub end_all_of-len-requires : goal.end_all_of-len-requires
 end_all_of-len-requires c =
-    let test-open = c.test_open-test in
-    let good = sym c.in_default.is ∙ test-open.ensures in
+    let good = sym c.in_ok-test_open.was ∙ c.test_open.ensures in
     let past = test-past c.args.conn (length c.args.out.now) (see c.args.m.now).links good in
     let h = holding c.requires in
     record {
@@ -30,9 +29,8 @@ end_all_of-len-requires c =
 
 pub set_link-requires : goal.set_link-requires
 set_link-requires c =
-    let test-open = c.test_open-test in
     let end-all-of = c.end_all_of-len in
-    let good = sym c.in_default.is ∙ test-open.ensures in
+    let good = sym c.in_ok-test_open.was ∙ c.test_open.ensures in
     let past = test-past c.args.conn (length c.args.out.now) (see c.args.m.now).links good in
     record {
       form = end-all-of.ensures.shows.form;
@@ -41,8 +39,7 @@ set_link-requires c =
 
 pub forget-requires : goal.forget-requires
 forget-requires c =
-    let test-open = c.test_open-test in
-    let good = sym c.in_default.is ∙ test-open.ensures in
+    let good = sym c.in_ok-test_open.was ∙ c.test_open.ensures in
     let past = test-past c.args.conn (length c.args.out.now) (see c.args.m.now).links good in
     record {
       stored = c.requires.whole.bytes;
@@ -51,9 +48,8 @@ forget-requires c =
 
 pub returns : goal.returns
 returns c =
-    let test-open = c.test_open-test in
     let end-all-of = c.end_all_of-len in
     let set_link = c.set_link in
     let forget = c.forget in
-    let good = sym c.in_default.is ∙ test-open.ensures in
-    close-done c.args.conn c.requires good end-all-of.ensures set_link.ensures forget.ensures
+    let good = sym c.in_ok-test_open.was ∙ c.test_open.ensures in
+    rw c.unmoved.ensures (close-done c.args.conn c.requires good end-all-of.ensures set_link.ensures forget.ensures)

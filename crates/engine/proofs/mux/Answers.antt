@@ -10,7 +10,6 @@ use Rattle.rules.specs.Answers.{air_mux}
 use Rattle.memory.specs.declared.Which.TheVariants.{Started}
 use Rattle.memory.specs.Memory.{sessions}
 use Rattle.memory.proofs.Laws.{quiet_none, quiet-some}
-use borrow.Author.Rules.{rules}
 use Rattle.engine.proofs.mux.Goals as goal
 
 air-none : (l : List Session) → length l ≡ 0 → 5 ≡ air_mux l

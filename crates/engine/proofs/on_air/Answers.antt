@@ -3,7 +3,6 @@ use Rattle.memory.specs.declared.Which.TheVariants.{Started}
 use Rattle.memory.specs.Memory.{sessions}
 use Rattle.engine.proofs.Calls.{feed-none, feed-some}
 use Rattle.memory.proofs.Laws.{quiet_none, quiet-some}
-use borrow.Author.Rules.{rules}
 use Rattle.engine.proofs.on_air.Goals as goal
 
 pub returns-then-is_quiet : goal.returns-then-is_quiet

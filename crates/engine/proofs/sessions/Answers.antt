@@ -6,27 +6,26 @@ use lib.ListN.{length}
 use Rattle.memory.specs.declared.Which.TheVariants.{Waiting, Started}
 use Rattle.memory.specs.Memory.{sessions}
 use Rattle.engine.proofs.Listed.{held-few, started-listable, waiting-listable, all_listed}
-use borrow.Author.Rules.{rules}
 use Rattle.engine.proofs.sessions.Goals as goal
 
 pub list_sessions-requires : goal.list_sessions-requires
 list_sessions-requires c =
     let n : c.count-started.result ≡ length (sessions Started c.args.m.now) =
     c.count-started.ensures in
-    started-listable c.requires c.args.rows.now c.at_most-first.result
-    (c.at_most-first.ensures ∙ ap (λ (k : ℕ). min k (length c.args.rows.now / 7)) n)
+    started-listable c.requires c.args.rows.now c.min-first.result
+    (c.min-first.ensures ∙ ap (λ (k : ℕ). min k (length c.args.rows.now / 7)) n)
 
 pub list_sessions-requires-2 : goal.list_sessions-requires-2
 list_sessions-requires-2 c =
     let room = length c.args.rows.now / 7 in
-    let first = c.at_most-first.result in
+    let first = c.min-first.result in
     let n : c.count-started.result ≡ length (sessions Started c.args.m.now) =
     c.count-started.ensures in
     let w : c.count-waiting.result ≡ length (sessions Waiting c.args.m.now) = c.count-waiting.ensures in
     let list = c.list_sessions in
-    waiting-listable c.requires c.args.rows.now first (c.at_most-first.ensures ∙ ap (λ (k : ℕ). min k room) n)
-    c.at_most.result list.new.rows
-    (c.at_most.ensures ∙ ap (λ (k : ℕ). min k (room - first)) w) list.ensures
+    waiting-listable c.requires c.args.rows.now first (c.min-first.ensures ∙ ap (λ (k : ℕ). min k room) n)
+    c.min.result list.new.rows
+    (c.min.ensures ∙ ap (λ (k : ℕ). min k (room - first)) w) list.ensures
 
 pub overflow_add-result : goal.overflow_add-result
 overflow_add-result c =
@@ -43,8 +42,8 @@ pub returns : goal.returns
 returns c =
     let m = c.args.m.now in
     let room = length c.args.rows.now / 7 in
-    let first = c.at_most-first in
-    let more = c.at_most in
+    let first = c.min-first in
+    let more = c.min in
     let n : c.count-started.result ≡ length (sessions Started m) =
     c.count-started.ensures in
     let w : c.count-waiting.result ≡ length (sessions Waiting m) =

@@ -1,7 +1,6 @@
 -- Each answer follows from the tests that led there.
 -- Rests on message-at: the definition behind its first test, with the bytes as the code reads them.
 use native.Mathlib.Omega.{arith}
-use borrow.Author.Rules.{rules}
 use borrow.Author.Tests.{lt-ltb, le-ltb}
 use lib.ListN.{length}
 use Rattle.rules.specs.Bytes.{largest_size}

@@ -1,46 +1,38 @@
-use mathlib.Core.Path.{◌≡◌, sym, ap, ◌∙◌}
+use mathlib.Core.Path.{◌≡◌}
+use mathlib.Core.Bool.{true, false}
 use Rattle.rules.specs.State.{is_initialised}
 use Rattle.memory.specs.Memory.{see}
-use Rattle.relay.proofs.Laws.{not-initialised, sofar-none, room-more, sofar-tells, sofar-skips, sofar-done}
-use Rattle.rules.specs.declared.Link.TheVariants.{Initialised}
+use lib.ListN.{get_or}
+use Rattle.rules.specs.declared.Link.TheVariants.{Closed}
+use Rattle.relay.proofs.Laws.{same-initialised, sofar-none, sofar-tells, sofar-skips, sofar-done}
+use Rattle.relay.proofs.tell.Goals.{then-eq, else-eq}
 use Rattle.relay.proofs.tell.Goals as goal
-use mathlib.Core.Logic.{inl, inr}
 
 pub loop-conn-init : goal.loop-conn-init
 loop-conn-init c =
     let a = c.args in
     sofar-none a.cue a.time a.section.now (see a.m.now).links a.out.now
 
-pub write_cue-len-requires : goal.write_cue-len-requires
-write_cue-len-requires c =
-    let l = c.loop-conn in
-    let a = c.args in record {
-      section_len_bound = c.requires.section_len_bound;
-      cue_room_in_bounds = room-more a.cue a.time a.section.now (see a.m.now).links a.out.now c.requires.section_len_bound
-          c.requires.cue_room_in_bounds l.invariant c.loop-conn-test.true;
-    }
-
 pub loop-conn-preserved : goal.loop-conn-preserved
 loop-conn-preserved c =
     let l = c.loop-conn in
     let a = c.args in
     let links = (see a.m.now).links in
-    -- the two ways by their place and not by a variant's name, so that code that serves another variant is refused for that
-    elim c.match-link.branch-raw [
-      | inl w ↦
-          let i : c.link-link.result ≡ Initialised = cc in
+    let r = c.requires in
+    let e = same-initialised c.link.result in
+    elim c.if-eq.branch [
+      | then-eq w ↦
+          let i : is_initialised (get_or links l.conn Closed) ≡ true = cc in
           rw (w.out-is, w.len-is)
-          (sofar-tells a.cue a.time a.section.now links a.out.now c.requires.section_len_bound c.requires.cue_room_in_bounds l.invariant
-          c.loop-conn-test.true (ap is_initialised (sym c.link-link.ensures ∙ i)) w.write_cue-len.ensures)
-      | inr w ↦
-          let n : c.link-link.result ≡ Initialised → ⊥ = assumption w in
+          (sofar-tells a.cue a.time a.section.now links a.out.now r.section_len_bound r.cue_room_in_bounds l.invariant
+          c.loop-conn-test.true i
+          w.write_cue-len.ensures)
+      | else-eq w ↦
+          let i : is_initialised (get_or links l.conn Closed) ≡ false = cc in
           rw (w.out-is, w.len-is)
-          (sofar-skips a.cue a.time a.section.now links a.out.now c.requires.section_len_bound c.requires.cue_room_in_bounds l.invariant
-          c.loop-conn-test.true (ap is_initialised (sym c.link-link.ensures) ∙ not-initialised c.link-link.result n))
+          (sofar-skips a.cue a.time a.section.now links a.out.now r.section_len_bound r.cue_room_in_bounds l.invariant
+          c.loop-conn-test.true i)
     ]
-
-pub shape_of-out : goal.shape_of-out
-shape_of-out c = c.loop-conn.invariant.long
 
 pub returns : goal.returns
 returns c =

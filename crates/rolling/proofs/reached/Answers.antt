@@ -7,11 +7,11 @@ use Rattle.rolling.proofs.reached.Goals as goal
 pub overflow_add-until : goal.overflow_add-until
 overflow_add-until c = omega (arith, c.requires, ap (λ y. y.0) c.from_ticks.ensures)
 
-pub returns-then-until-ge38654705664000000 : goal.returns-then-until-ge38654705664000000
-returns-then-until-ge38654705664000000 c =
+pub returns-then-until-ge-HORIZON : goal.returns-then-until-ge-HORIZON
+returns-then-until-ge-HORIZON c =
     let step = c.step-d in
     step_past c.args.clock.0 c.args.last c.args.reading (omega (arith, step.ensures))
-    (omega (arith, step.ensures, c.if-until-ge38654705664000000.true, ap (λ y. y.0) c.from_ticks.ensures))
+    (omega (arith, step.ensures, c.if-until-ge-HORIZON.true, ap (λ y. y.0) c.from_ticks.ensures))
 
 pub returns : goal.returns
 returns c =
@@ -19,4 +19,4 @@ returns c =
     let from-ticks = c.from_ticks in
     rw (ap (λ y. y.0) from-ticks.ensures, step.ensures)
     (step-good c.args.clock.0 c.args.last c.args.reading (omega (arith, step.ensures))
-    (omega (arith, step.ensures, c.if-until-ge38654705664000000.false, ap (λ y. y.0) from-ticks.ensures)))
+    (omega (arith, step.ensures, c.if-until-ge-HORIZON.false, ap (λ y. y.0) from-ticks.ensures)))

@@ -10,7 +10,6 @@ use Rattle.memory.specs.Memory.{shown}
 use Rattle.feed.specs.Feed.{next_of, used_by, is_cut}
 use Rattle.feed.specs.Play.{step_by}
 use Rattle.feed.proofs.Plays.{ended-plays, open-silent, made-plays, plays-as, message-plays, used-within, stopped-plays}
-use borrow.Author.Rules.{rules}
 use Rattle.feed.proofs.playing.play.Goals as goal
 
 pub slice_bounds-message-end : goal.slice_bounds-message-end
