@@ -14,26 +14,30 @@ use Rattle.rules.specs.HouseNumbers.{Answer, refused, good, written_by, buffer_a
 use Rattle.rules.specs.Calls.{Call, opens, closes, ticks}
 use Rattle.rules.proofs.Bytes.{padded-byte}
 use Rattle.rules.proofs.Written.{written_none}
-use Rattle.recall_log.specs.declared.Reply.{Reply}
-use Rattle.recall_log.specs.declared.Reply.TheVariants.{Full, Done}
-use Rattle.recall_log.specs.declared.Space.TheVariants.{From, NoSpace}
+use Rattle.std.specs.Prelude.{Option, None, Some, Result, Ok, Err}
+use Rattle.std.specs.Option.{ok_or}
+use Rattle.std.proofs.lemmas.Option.{none-some, same_Some}
+use Rattle.rules.specs.declared.Refusal.{Refusal}
+use Rattle.recall_log.specs.declared.Refused.{Refused}
+use Rattle.recall_log.specs.declared.Refused.TheVariants.{Full, Rule}
 use Rattle.recall_log.specs.Log.{kept_calls, taken, full, other_length}
 use Rattle.reply.specs.declared.Did.{Did}
-use Rattle.recall_log.specs.Kept.{Good, kept_form, reply_of, unmoved, appended, cleared, log_after, space_in, Behind}
+use Rattle.recall_log.specs.Kept.{Reply, Good, kept_form, reply_of, unmoved, appended, cleared, log_after, space_in, Behind}
 use Rattle.recall_log.proofs.Logs.{place-behind, any-log}
 use Rattle.recall_rules.specs.Calls.{Pass, Called, open_call, close_call, tick_call, call, begun, passed}
 use Rattle.recall_rules.proofs.Calls.{SameCalled}
 use Rattle.recall_rules.proofs.Twice.{answers-like-the-rules}
 use Rattle.recall_answers.specs.declared.Carried.{Carried}
 use Rattle.recall_pass.specs.declared.Played.{Played}
-use Rattle.recall_pass.specs.Passes.{pass_in, Plays, Passed}
+use Rattle.recall_pass.specs.Passes.{pass_in, replied, Plays, Passed}
+use Rattle.recall.specs.Finish.{Begins}
 use Rattle.recall.specs.Recall as recall
 use Rattle.recall.specs.Recall.{recall_call, recall_fresh, Recalled, told_by, Remembers, Forgets}
 use Rattle.recall.proofs.Recalls.{thirteen-leaves, fresh-leaves}
 
 -- ## 13, and fresh
 
-pub remembers-full : (k : Call) (l e : List ℕ) → full l ≡ true → Remembers k l e Full l e
+pub remembers-full : (k : Call) (l e : List ℕ) → full l ≡ true → Remembers k l e (Err Full) l e
 remembers-full k l e f =
     let g = sym (thirteen-leaves k l f) in
     record {
@@ -42,20 +46,20 @@ remembers-full k l e f =
       buffer = sym (written_none e 0) ∙ ap (λ (x : Recalled). written e 0 x.told.shows) g;
     }
 
-pub forgets-full : (l : List ℕ) → other_length l ≡ true → Forgets l Full l
+pub forgets-full : (l : List ℕ) → other_length l ≡ true → Forgets l (Err Full) l
 forgets-full l f =
     let g = sym (fresh-leaves l f) in
     record { reply = ap (λ (x : Recalled). x.told.reply) g; log = ap (λ (x : Recalled). x.log) g }
 
 fresh-clears : (l : List ℕ) → other_length l ≡ false → recall_fresh l ≡ record
-    { told = record { reply = Done (unmoved 0); shows = [] }; log = cleared l }
+    { told = record { reply = Ok (unmoved 0); shows = [] }; log = cleared l }
 unfolding recall_fresh
 fresh-clears l f = rw f
 
-pub forgets-all : {l n : List ℕ} → other_length l ≡ false → n ≡ cleared l → Forgets l (Done (unmoved 0)) n
-forgets-all {l} {n} f e =
+pub forgets-all : {l n : List ℕ} {d : Did} → other_length l ≡ false → d ≡ unmoved 0 → n ≡ cleared l → Forgets l (Ok d) n
+forgets-all {l} {n} f q e =
     let g = sym (fresh-clears l f) in
-    record { reply = ap (λ (x : Recalled). x.told.reply) g; log = e ∙ ap (λ (x : Recalled). x.log) g }
+    record { reply = ap (λ (x : Did). Ok x) q ∙ ap (λ (x : Recalled). x.told.reply) g; log = e ∙ ap (λ (x : Recalled). x.log) g }
 
 -- any two results that a promise allows are equal
 pub remembers-same : (k : Call) (l e : List ℕ) {r r' : Reply} {n n' o o' : List ℕ} → Remembers k l e r n o → Remembers k l e r' n' o'
@@ -67,13 +71,16 @@ forgets-same l a b = (a.reply ∙ sym b.reply, a.log ∙ sym b.log)
 
 -- ## Whether a call is kept
 
-is-kept : (k : Call) (a : Answer) (n : ℕ) (l : List ℕ) {x : Did} → reply_of a n ≡ Done x
+err_no_ok : {A B : Type 0} {x : A} {n : B} → ◌≡◌ {A = Result A B} (Err n) (Ok x) → ⊥
+err_no_ok e = absurd cc
+
+is-kept : (k : Call) (a : Answer) (n : ℕ) (l : List ℕ) {x : Did} → reply_of a n ≡ Ok x
     → Good a × (log_after k a l ≡ appended (kept_form k) l)
 unfolding reply_of log_after
-is-kept k (refused m) n l e = let z : ◌≡◌ {A = ℕ} 0 1 = cc in absurd (omega arith)
+is-kept k (refused m) n l e = absurd (err_no_ok e)
 is-kept k (good consumed rs) n l e = (tt, refl)
 
-not-kept : (k : Call) (a : Answer) (n : ℕ) (l : List ℕ) → ((x : Did) → reply_of a n ≡ Done x → ⊥) → log_after k a l ≡ l
+not-kept : (k : Call) (a : Answer) (n : ℕ) (l : List ℕ) → ((x : Did) → reply_of a n ≡ Ok x → ⊥) → log_after k a l ≡ l
 unfolding reply_of log_after
 not-kept k (refused m) n l t = refl
 not-kept k (good consumed rs) n l t = absurd (t _ refl)
@@ -118,12 +125,12 @@ module _ (k : Call) (l : List ℕ) (b : All Byte l) (f : full l ≡ false) where
           }
 
       -- a refused call is not kept
-      pub remembers-not : ((x : Did) → r ≡ Done x → ⊥) → {e o : List ℕ} → o ≡ buffer_after c.answer e → Remembers k l e r l o
+      pub remembers-not : ((x : Did) → r ≡ Ok x → ⊥) → {e o : List ℕ} → o ≡ buffer_after c.answer e → Remembers k l e r l o
       remembers-not t i = remembers (sym (not-kept k c.answer c.moved l
-          (subst (λ (x : Reply). (y : Did) → x ≡ Done y → ⊥) told t))) i
+          (subst (λ (x : Reply). (y : Did) → x ≡ Ok y → ⊥) told t))) i
 
       -- a good one is
-      module _ {x : Did} (d : r ≡ Done x) where
+      module _ {x : Did} (d : r ≡ Ok x) where
         pub remembers-done : {n e o : List ℕ} → n ≡ appended (kept_form k) l → o ≡ buffer_after c.answer e → Remembers k l e r n o
         remembers-done {n} h i = remembers (h ∙ sym (is-kept k c.answer c.moved l (sym told ∙ d)).1) i
 
@@ -132,39 +139,64 @@ module _ (k : Call) (l : List ℕ) (b : All Byte l) (f : full l ≡ false) where
 
 -- ## The place for its record
 
-pub space-none : (l : List ℕ) → space_in l ≡ NoSpace → full l ≡ true
+pub space-none : (l : List ℕ) → space_in l ≡ None → full l ≡ true
 unfolding space_in
 space-none l = go (full l)
   where
-    go : (x : Bool) → cond x NoSpace (From (taken l)) ≡ NoSpace → x ≡ true
+    go : (x : Bool) → cond x None (Some (taken l)) ≡ None → x ≡ true
     go true e = refl
-    go false e = let z : ◌≡◌ {A = ℕ} 0 1 = cc in absurd (omega arith)
+    go false e = absurd (none-some (taken l) (sym e))
 
-pub space-from : (l : List ℕ) {at : ℕ} → space_in l ≡ From at → (full l ≡ false) × Behind l at
+pub space-from : (l : List ℕ) {at : ℕ} → space_in l ≡ Some at → (full l ≡ false) × Behind l at
 unfolding space_in
 space-from l {at} = go (full l) refl
   where
-    go : (x : Bool) → full l ≡ x → cond x NoSpace (From (taken l)) ≡ From at → (full l ≡ false) × Behind l at
-    go true f e = let z : ◌≡◌ {A = ℕ} 0 1 = cc in absurd (omega arith)
-    go false f e = let z : taken l ≡ at = cc in (f, subst (Behind l) z (place-behind l f))
+    go : (x : Bool) → full l ≡ x → cond x None (Some (taken l)) ≡ Some at → (full l ≡ false) × Behind l at
+    go true f e = absurd (none-some at e)
+    go false f e = (f, subst (Behind l) (same_Some (taken l) at e) (place-behind l f))
+
+-- what is made of it
+pub place-none : (o : Option ℕ) {n : Refused} → ok_or o Full ≡ Err n → (o ≡ None) × (n ≡ Full)
+place-none None e = (refl, cc)
+place-none (Some x) e = absurd (err_no_ok (sym e))
+
+pub place-some : (o : Option ℕ) {at : ℕ} → ok_or o Full ≡ Ok at → o ≡ Some at
+place-some None e = absurd (err_no_ok e)
+place-some (Some x) e = cc
+
+-- what `begin` gives
+pub begun-full : (k : Call) (l e m : List ℕ) {r : Result (ℕ × Carried) Refused} {n : Refused} → Begins l r m → r ≡ Err n
+    → Remembers k l e (Err n) l e
+begun-full k l e m b i =
+    let a = subst (λ x. Begins l x m) i b in
+    subst (λ x. Remembers k l e (Err x) l e) (sym a.1) (remembers-full k l e a.0)
+
+pub begun-there : (l m : List ℕ) {r : Result (ℕ × Carried) Refused} {p : ℕ × Carried} → Begins l r m → r ≡ Ok p
+    → (full l ≡ false) × Behind l p.0 × Passed l p.1 m
+begun-there l m b i = subst (λ x. Begins l x m) i b
 
 -- ## A call that was played behind all kept ones
 
 module _ (k : Call) (l : List ℕ) (b : All Byte l) (f : full l ≡ false) {h : Carried} {m : List ℕ} (p : Passed l h m) {g : Pass → Called}
     (is_call : (s : Pass) → g s ≡ call k s)
-    {q : Played} {e j o : List ℕ} (y : Plays l h (g (pass_in l h m)) e q j o) where
+    {q : Result Played Refusal} {e j o : List ℕ} (y : Plays l h (g (pass_in l h m)) e q j o) where
   played-made : g (pass_in l h m) ≡ call k (passed (kept_calls l) (begun card_name))
   played-made = is_call (pass_in l h m) ∙ ap (call k) p.pass
 
-  pub played-not : ((x : Did) → q.reply ≡ Done x → ⊥) → Remembers k l e q.reply l o
-  played-not t = remembers-not k l b f played-made y.reply t y.buffer
+  pub played-not : {n : Refusal} → q ≡ Err n → Remembers k l e (Err (Rule n)) l o
+  unfolding replied
+  played-not d = remembers-not k l b f played-made (ap replied (sym d) ∙ y.reply) (λ x z. err_no_ok z) y.buffer
 
-  module _ {x : Did} (d : q.reply ≡ Done x) where
-    pub played-done : {n : List ℕ} → n ≡ appended (kept_form k) l → Remembers k l e q.reply n o
-    played-done i = remembers-done k l b f played-made y.reply d i y.buffer
+  module _ {x : Played} (d : q ≡ Ok x) where
+    told_is : Ok x.did ≡ reply_of (g (pass_in l h m)).answer (g (pass_in l h m)).moved
+    unfolding replied
+    told_is = ap replied (sym d) ∙ y.reply
+
+    pub played-done : {n : List ℕ} → n ≡ appended (kept_form k) l → Remembers k l e (Ok x.did) n o
+    played-done i = remembers-done k l b f played-made told_is refl i y.buffer
 
     pub played-good : Good (rules.call k (rules.after (kept_calls l) recall.begun)).answer
-    played-good = good-there k l b f played-made y.reply d
+    played-good = good-there k l b f played-made told_is refl
 
 pub open_is : (c : ℕ) (s : Pass) → open_call c s ≡ call (opens c) s
 unfolding call

@@ -10,8 +10,8 @@ use lib.Dec.{ltb}
 use lib.ListN.{length, get_or}
 use borrow.Author.Tests.{ltb-false, lt-ltb, le-ltb}
 use Rattle.rules.specs.declared.Refusal.{Refusal}
-use Rattle.rules.specs.declared.Framing.{Framing}
-use Rattle.rules.specs.declared.Framing.TheVariants.{Framed, Unframed}
+use Rattle.std.specs.Prelude.{Result, Ok, Err}
+use Rattle.rules.specs.declared.Header.{Header}
 use Rattle.rules.specs.Lists.{All}
 use Rattle.rules.specs.Follows.Wires.{Byte}
 use Rattle.rules.specs.Bytes.{part, data_of, message_size, largest_size, oversize}
@@ -22,7 +22,7 @@ use Rattle.rules.specs.HouseNumbers.{Loans, lending_maps, longest_section, long_
 use Rattle.rules.specs.Calls.{framing, Call, messages}
 use Rattle.rules.proofs.Tests.{or-none, by}
 use Rattle.rules.proofs.Written.{written_none}
-use Rattle.recall_log.specs.declared.Reply.TheVariants.{Refused, Done}
+use Rattle.recall_log.specs.declared.Refused.TheVariants.{Rule}
 use Rattle.recall_log.specs.Log.{kept_calls, full}
 use Rattle.recall_log.specs.Kept.{kept_form, reply_of, appended, log_after}
 use Rattle.recall_rules.specs.Calls.{Pass, Answered, section_of, answer, config_response, handled, message_call, call, begun, passed}
@@ -92,16 +92,16 @@ brief false p q h k = k
 
 -- the test's answer f, behind all calls of the log
 pub framed-here : {l : List ℕ} {h : Carried} {m : List ℕ} → Passed l h m
-    → (c : ℕ) (read : List ℕ) (loans : Loans) {f g : Framing} {b : Bool}
+    → (c : ℕ) (read : List ℕ) (loans : Loans) {f g : Result Header Refusal} {b : Bool}
     → FramesAny c read loans.room b h f → b ≡ long_section loans → f ≡ g
     → g ≡ framed c read loans.room (long_section loans) (pass_in l h m)
 framed-here {l} {h} {m} p c read loans a e z =
     sym z ∙ a (hardwares l h) (rows_of h m) ∙ ap (λ (b : Bool). framed c read loans.room b (pass_in l h m)) e
 
 -- of a message that is framed
-abbrev Whole : List ℕ → Framing → Type 0
-Whole l (Framed id n) = (8 + n ≤ length l) × (n ≤ largest_size)
-Whole l (Unframed r) = Unit {0}
+abbrev Whole : List ℕ → Result Header Refusal → Type 0
+Whole l (Ok x) = (8 + x.size ≤ length l) × (x.size ≤ largest_size)
+Whole l (Err n) = Unit {0}
 
 whole : (l : List ℕ) → Whole l (framing l)
 unfolding framing
@@ -120,47 +120,48 @@ module _ (l : List ℕ) (b : All Byte l) (f : full l ≡ false) {h : Carried} {m
   k = messages c read loans
 
   -- what the framing makes of it
-  made : {g : Framing} → g ≡ framed c read loans.room (long_section loans) s
+  made : {g : Result Header Refusal} → g ≡ framed c read loans.room (long_section loans) s
       → handled c g read loans s ≡ call k (passed (kept_calls l) (begun card_name))
   unfolding call
-  made {g} e = ap (λ (x : Framing). handled c x read loans s) e ∙ sym (message-is c read loans s) ∙ ap (message_call c read loans) p.pass
+  made {g} e = ap (λ (x : Result Header Refusal). handled c x read loans s) e ∙ sym (message-is c read loans s)
+      ∙ ap (message_call c read loans) p.pass
 
-  pub message-refused : {n : Refusal} {e : List ℕ} → Unframed n ≡ framed c read loans.room (long_section loans) s
-      → Remembers k l e (Refused n) l e
+  pub message-refused : {n : Refusal} {e : List ℕ} → Err n ≡ framed c read loans.room (long_section loans) s
+      → Remembers k l e (Err (Rule n)) l e
   unfolding handled reply_of log_after buffer_after written_by
   message-refused {n} {e} g = remembers k l b f (made g) refl refl (sym (written_none e 0))
 
   -- a whole message, whose answer a was given
-  module _ {id size : ℕ} (g : Framed id size ≡ framed c read loans.room (long_section loans) s) where
-    pub message-low : (c ≤ 3) × (4096 ≤ loans.room) × (long_section loans ≡ false) × (framing read ≡ Framed id size)
+  module _ {head : Header} (g : Ok head ≡ framed c read loans.room (long_section loans) s) where
+    pub message-low : (c ≤ 3) × (4096 ≤ loans.room) × (long_section loans ≡ false) × (framing read ≡ Ok head)
     message-low = framed-low c read loans.room (long_section loans) s (sym g)
 
-    pub message-size : size ≡ message_size read
+    pub message-size : head.size ≡ message_size read
     message-size = framed-size read message-low.3
 
     pub message-done : {moved len : ℕ} {n e o : List ℕ}
-        → Tells e 0 (answer c id (data_of size read) (section_of loans s) s).written len o
-        → moved ≡ (answer c id (data_of size read) (section_of loans s) s).moved
-        → n ≡ appended (messages c (part 0 (8 + size) read) card_loans) l
-        → Remembers k l e (Done (record { consumed = 8 + size; written = len; moved = moved })) n o
+        → Tells e 0 (answer c head.id (data_of head.size read) (section_of loans s) s).written len o
+        → moved ≡ (answer c head.id (data_of head.size read) (section_of loans s) s).moved
+        → n ≡ appended (messages c (part 0 (8 + head.size) read) card_loans) l
+        → Remembers k l e (Ok (record { consumed = 8 + head.size; written = len; moved = moved })) n o
     unfolding handled reply_of log_after buffer_after written_by kept_form
     message-done {moved} {len} {n} {e} {o} t q x =
-        remembers k l b f (made g) (ap₂ (λ (i j : ℕ). Done (record { consumed = 8 + size; written = i; moved = j }))
+        remembers k l b f (made g) (ap₂ (λ (i j : ℕ). Ok (record { consumed = 8 + head.size; written = i; moved = j }))
         (omega (arith, t.count)) q)
         (x ∙ ap (λ (i : ℕ). appended (messages c (part 0 (8 + i) read) card_loans) l) message-size) t.bytes
 
-    pub message-within : (8 + size ≤ length read) × (size ≤ largest_size)
+    pub message-within : (8 + head.size ≤ length read) × (head.size ≤ largest_size)
     message-within = subst (Whole read) message-low.3 (whole read)
 
     -- y: the data that was handed on; x: the section that was chosen
-    pub message-whole : {y x e i j o n : List ℕ} {w : Heard} {len : ℕ} → y ≡ data_of size read → x ≡ section_of loans s
-        → HearsAny c id y h m e w j i
-        → Finishes l h c x w i len o → n ≡ appended (messages c (part 0 (8 + size) read) card_loans) l
-        → Remembers k l e (Done (record { consumed = 8 + size; written = len; moved = w.moved })) n o
+    pub message-whole : {y x e i j o n : List ℕ} {w : Heard} {len : ℕ} → y ≡ data_of head.size read → x ≡ section_of loans s
+        → HearsAny c head.id y h m e w j i
+        → Finishes l h c x w i len o → n ≡ appended (messages c (part 0 (8 + head.size) read) card_loans) l
+        → Remembers k l e (Ok (record { consumed = 8 + head.size; written = len; moved = w.moved })) n o
     message-whole {y} {x} {e} {i} {j} {o} {n} {w} {len} z t a v q =
         let b = a (hardwares l h) x in
-        let r : answer c id y x s ≡ answer c id (data_of size read) (section_of loans s) s = ap₂ (λ (u v : List ℕ). answer c id u v s) z t
-        in
+        let r : answer c head.id y x s ≡ answer c head.id (data_of head.size read) (section_of loans s) s =
+        ap₂ (λ (u v : List ℕ). answer c head.id u v s) z t in
         message-done
-        (subst (λ (u : Answered). Tells e 0 u.written len o) r (v y (answer c id y x s) s e refl refl b.left b.tells))
+        (subst (λ (u : Answered). Tells e 0 u.written len o) r (v y (answer c head.id y x s) s e refl refl b.left b.tells))
         (b.moved ∙ ap (λ (u : Answered). u.moved) r) q

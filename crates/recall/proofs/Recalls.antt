@@ -4,7 +4,6 @@ use mathlib.Core.Path.{◌≡◌, refl, sym, subst, ap, ap₂, ◌∙◌}
 use mathlib.Core.Bool.{Bool, true, false, cond}
 use mathlib.Core.List.{List, [], ◌∷◌, ◌++◌, append_assoc, append-nil}
 use Prim.Native.Nat.{ℕ, ◌-◌}
-use native.Mathlib.Omega.{arith}
 use lib.Dec.{eqb}
 use lib.ListN.{length, take, replicate, take-append-drop}
 use Rattle.rules.specs.declared.Refusal.{Refusal}
@@ -17,7 +16,8 @@ use Rattle.rules.specs.HouseNumbers.{Answer, refused, good, Called, house_number
 use Rattle.rules.specs.Calls.{Call, call, after}
 use Rattle.rules.specs.Follows.Sound.{Wired}
 use Rattle.rules.proofs.Tests.{by}
-use Rattle.recall_log.specs.declared.Reply.TheVariants.{Refused, Done}
+use Rattle.std.specs.Prelude.{Ok, Err}
+use Rattle.recall_log.specs.declared.Refused.TheVariants.{Rule}
 use Rattle.recall_log.specs.Log.{kept_calls, taken, log_length, other_length, full}
 use Rattle.recall_log.specs.Kept.{Its, kept_form, recorded, is_good, Neat, number_of, reply_of, unmoved, cleared, log_after}
 use Rattle.recall_log.proofs.Appends.{cleared-calls}
@@ -168,7 +168,7 @@ thirteen-of-fresh l = go (other_length l)
   where
     go : (b : Bool)
         → eqb (number_of (cond b (thirteen l) (record {
-          told = record { reply = Done (unmoved 0); shows = [] };
+          told = record { reply = Ok (unmoved 0); shows = [] };
           log =
               cleared l;
         })).told.reply) 13 ≡ b
@@ -185,7 +185,7 @@ unfolding recall_fresh
 fresh-leaves l e = rw e
 
 -- a refused call is not kept and leaves the log as it was
-pub refused-leaves : (k : Call) (l : List ℕ) (n : Refusal) → (recall_call k l).told.reply ≡ Refused n
+pub refused-leaves : (k : Call) (l : List ℕ) (n : Refusal) → (recall_call k l).told.reply ≡ Err (Rule n)
     → ((recall_call k l).log ≡ l) × ((recall_call k l).told.shows ≡ [])
 unfolding recall_call told_by reply_of log_after written_by
 refused-leaves k l n = go (full l) (call k (after (kept_calls l) begun)).answer
@@ -198,7 +198,7 @@ refused-leaves k l n = go (full l) (call k (after (kept_calls l) begun)).answer
                 written_by a;
           };
           log = log_after k a l;
-        })).told.reply ≡ Refused n
+        })).told.reply ≡ Err (Rule n)
         → ((cond b (thirteen l) (record {
           told = record {
             reply = reply_of a (call k (after (kept_calls l) begun)).moved;
@@ -217,7 +217,7 @@ refused-leaves k l n = go (full l) (call k (after (kept_calls l) begun)).answer
         })).told.shows ≡ [])
     go true a e = (refl, refl)
     go false (refused m) e = (refl, refl)
-    go false (good consumed rs) e = let z : ◌≡◌ {A = ℕ} 0 1 = cc in absurd (omega arith)
+    go false (good consumed rs) e = absurd cc
 
 -- ## The theorems
 

@@ -7,7 +7,8 @@ use Prim.Native.Nat.{ℕ}
 use lib.ListN.{length, replicate, length-replicate}
 use Rattle.rules.specs.declared.Refusal.TheVariants.{NoConnection}
 use Rattle.rules.specs.Calls.{opens, open_call, call}
-use Rattle.recall_log.specs.declared.Reply.TheVariants.{Refused}
+use Rattle.std.specs.Prelude.{Err}
+use Rattle.recall_log.specs.declared.Refused.TheVariants.{Rule}
 use Rattle.recall_log.specs.Log.{log_length, other_length, full}
 use Rattle.recall_log.specs.Kept.{reply_of, cleared}
 use Rattle.recall_log.proofs.Appends.{cleared-calls}
@@ -25,7 +26,7 @@ not_full =
     ∙ ap spent (cleared-calls (replicate log_length 0))
 
 -- there is no connection 4
-pub refuses : (recall_call (opens 4) log).told.reply ≡ Refused NoConnection
+pub refuses : (recall_call (opens 4) log).told.reply ≡ Err (Rule NoConnection)
 unfolding recall_call told_by reply_of call open_call
 refuses = rw not_full
 

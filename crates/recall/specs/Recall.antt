@@ -1,15 +1,14 @@
 -- 02, CR 12: "works out each answer from the whole list by the rules of document 01 as amended, for the name "CH1"".
-use Rattle.std.specs.Prelude.{◌≡◌, Bool, false, cond, ◌||◌, List, [], ◌∷◌, ◌++◌, ℕ, ◌-◌, leb, ltb, length, replicate}
+use Rattle.std.specs.Prelude.{Ok, Err, ◌≡◌, Bool, false, cond, ◌||◌, List, [], ◌∷◌, ◌++◌, ℕ, ◌-◌, leb, ltb, length, replicate}
 use Rattle.rules.specs.Lists.{put}
 use Rattle.rules.specs.Bytes.{padded, written}
 use Rattle.rules.specs.State.{Splicer}
 use Rattle.rules.specs.HouseNumbers.{Called, written_by}
 use Rattle.rules.specs.Calls.{fresh, Call, call, after}
 use Rattle.rules.specs.Card.{card_name}
-use Rattle.recall_log.specs.declared.Reply.{Reply}
-use Rattle.recall_log.specs.declared.Reply.TheVariants.{Full, Done}
+use Rattle.recall_log.specs.declared.Refused.TheVariants.{Full}
 use Rattle.recall_log.specs.Log.{kept_calls, log_length, most_calls, longest_record, other_length, full}
-use Rattle.recall_log.specs.Kept.{kept_form, recorded, is_good, reply_of, unmoved, cleared, log_after}
+use Rattle.recall_log.specs.Kept.{Reply, kept_form, recorded, is_good, reply_of, unmoved, cleared, log_after}
 
 -- the splicer of a fresh card
 unfoldable pub begun : Splicer
@@ -33,7 +32,7 @@ told_by c = record { reply = reply_of c.answer c.moved; shows = written_by c.ans
 
 -- 13, "before all others": nothing changes
 abbrev pub thirteen : List ℕ → Recalled
-thirteen l = record { told = record { reply = Full; shows = [] }; log = l }
+thirteen l = record { told = record { reply = Err Full; shows = [] }; log = l }
 
 -- open, close, message and tick, handed the log l: any bytes
 unfoldable pub recall_call : Call → List ℕ → Recalled
@@ -43,7 +42,7 @@ recall_call k l =
 
 -- fresh: it forgets what is kept, so the length alone counts
 unfoldable pub recall_fresh : List ℕ → Recalled
-recall_fresh l = cond (other_length l) (thirteen l) (record { told = record { reply = Done (unmoved 0); shows = [] }; log = cleared l })
+recall_fresh l = cond (other_length l) (thirteen l) (record { told = record { reply = Ok (unmoved 0); shows = [] }; log = cleared l })
 
 -- ## What a call promises
 

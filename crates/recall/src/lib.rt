@@ -9,13 +9,12 @@ ghost use Rattle.rules.specs.Calls.{opens, closes, messages, ticks};
 ghost use Rattle.rules.specs.Card.{card_room};
 ghost use Rattle.recall_answers.specs.Replies.{Placed};
 ghost use Rattle.recall.specs.Recall.{Remembers, Forgets};
-ghost use Rattle.recall.specs.Finish.{Finishes};
+ghost use Rattle.recall.specs.Finish.{Begins, Finishes};
 
 use recall_answers::{Carried, Effect};
-use recall_log::{Reply, Space};
+use recall_log::{Refused, Reply};
 use recall_pass::{Heard, WORDS};
 use reply::Did;
-use rules::Framing;
 
 // 02, CR 6, 10: "a lent section over 1,024 bytes".
 const SECTION: usize = 1024;
@@ -25,33 +24,30 @@ pub fn fresh(log: &mut [u8]) -> Reply
     ensures { Forgets log.old result log.new }
 {
     if log.len() != recall_log::LOG {
-        return Reply::Full;
+        return Err(Refused::Full);
     }
     recall_log::clear(&mut *log);
-    Reply::Done(Did {
-        consumed: 0,
-        written: 0,
-        moved: 0,
-    })
+    Ok(Did::unmoved(0))
+}
+
+// 13 before all others; else where the next record goes, and what the calls before it lead to.
+fn begin(log: &[u8], m: &mut [u64; WORDS]) -> Result<(usize, Carried), Refused>
+    ensures { Begins log.now result m.new }
+{
+    let at = recall_log::next_place(log).ok_or(Refused::Full)?;
+    let h = recall_pass::pass(log, &mut *m);
+    Ok((at, h))
 }
 
 // Open: 13, 1, 6.
 pub fn open(log: &mut [u8], conn: u32) -> Reply
     ensures { Remembers (opens conn) log.old [] result log.new [] }
 {
-    let space = recall_log::next_place(&*log);
-    let Space::From(at) = space else {
-        return Reply::Full;
-    };
     let mut m = [0; WORDS];
-    let h = recall_pass::pass(&*log, &mut m);
-    let p = recall_pass::open(h, conn);
-    let reply = p.reply;
-    let Reply::Done(_) = reply else {
-        return reply;
-    };
+    let (at, h) = begin(&*log, &mut m)?;
+    let p = recall_pass::open(h, conn)?;
     recall_log::keep_open(&mut *log, at, conn as u8);
-    reply
+    Ok(p.did)
 }
 
 // Close: 13, 1, 2, 7.
@@ -59,19 +55,11 @@ pub fn close(log: &mut [u8], conn: u32, out: &mut [u8]) -> Reply
     ensures { Remembers (closes conn (length out.old)) log.old out.old result
         log.new out.new }
 {
-    let space = recall_log::next_place(&*log);
-    let Space::From(at) = space else {
-        return Reply::Full;
-    };
     let mut m = [0; WORDS];
-    let h = recall_pass::pass(&*log, &mut m);
-    let p = recall_pass::close(&mut m, h, conn, &mut *out);
-    let reply = p.reply;
-    let Reply::Done(_) = reply else {
-        return reply;
-    };
+    let (at, h) = begin(&*log, &mut m)?;
+    let p = recall_pass::close(&mut m, h, conn, &mut *out)?;
     recall_log::keep_close(&mut *log, at, conn as u8);
-    reply
+    Ok(p.did)
 }
 
 // Tick: 13, 2, 8, 3.
@@ -79,29 +67,18 @@ pub fn tick(log: &mut [u8], seconds: u32, micros: u32, out: &mut [u8]) -> Reply
     ensures { Remembers (ticks seconds micros (length out.old)) log.old out.old result
         log.new out.new }
 {
-    let space = recall_log::next_place(&*log);
-    let Space::From(at) = space else {
-        return Reply::Full;
-    };
     let mut m = [0; WORDS];
-    let h = recall_pass::pass(&*log, &mut m);
-    let p = recall_pass::tick(&mut m, h, seconds, micros, &mut *out);
-    let reply = p.reply;
-    let Reply::Done(_) = reply else {
-        return reply;
-    };
+    let (at, h) = begin(&*log, &mut m)?;
+    let p = recall_pass::tick(&mut m, h, seconds, micros, &mut *out)?;
     recall_log::keep_tick(&mut *log, at, seconds, micros);
-    reply
+    Ok(p.did)
 }
 
 // 02, CR 6: "gets back the one on air, as part of what was lent".
 fn map_on_air<'a>(primary: &'a [u8], insertion: &'a [u8], feed: usize) -> &'a [u8]
     ensures { result ≡ cond (eqb feed 0) primary.entry insertion.entry }
 {
-    if feed == 0 {
-        return primary;
-    }
-    insertion
+    if feed == 0 { primary } else { insertion }
 }
 
 // 10: "a lent section over 1,024 bytes".
@@ -119,8 +96,7 @@ fn finish(log: &[u8], h: Carried, conn: u32, section: &[u8], g: Heard, out: &mut
     requires card_room_in_bounds { card_room ≤ length out.old }
     ensures { Finishes log.now h conn section.now g out.old result out.new }
 {
-    let effect = g.effect;
-    let Effect::Configures = effect else {
+    let Effect::Configures = g.effect else {
         return g.len;
     };
     recall_answers::answer_config(log, h, conn, section, &mut *out)
@@ -139,25 +115,17 @@ pub fn message<'a>(
         (messages conn l.now (lending_maps primary.now insertion.now (length out.old)))
         log.old out.old result log.new out.new }
 {
-    let space = recall_log::next_place(&*log);
-    let Space::From(at) = space else {
-        return Reply::Full;
-    };
     let mut m = [0; WORDS];
-    let h = recall_pass::pass(&*log, &mut m);
-    match recall_pass::framed(h, conn, l, out.len(), is_long(primary, insertion)) {
-        Framing::Unframed(n) => Reply::Refused(n),
-        Framing::Framed(id, size) => {
-            let section = map_on_air(primary, insertion, recall_pass::feed(&m, h));
-            let d = reading::data_of(l, size as usize);
-            let g = recall_pass::hear(&mut m, h, conn, id, d, &mut *out);
-            let len = finish(&*log, h, conn, section, g, &mut *out);
-            recall_log::keep_message(&mut *log, at, conn as u8, l, size);
-            Reply::Done(Did {
-                consumed: 8 + size as usize,
-                written: len,
-                moved: g.moved,
-            })
-        }
-    }
+    let (at, h) = begin(&*log, &mut m)?;
+    let head = recall_pass::framed(h, conn, l, out.len(), is_long(primary, insertion))?;
+    let section = map_on_air(primary, insertion, recall_pass::feed(&m, h));
+    let d = reading::data_of(l, head.size as usize);
+    let g = recall_pass::hear(&mut m, h, conn, head.id, d, &mut *out);
+    let len = finish(&*log, h, conn, section, g, &mut *out);
+    recall_log::keep_message(&mut *log, at, conn as u8, l, head.size);
+    Ok(Did {
+        consumed: 8 + head.size as usize,
+        written: len,
+        moved: g.moved,
+    })
 }

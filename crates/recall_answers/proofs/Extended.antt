@@ -3,35 +3,25 @@
 use mathlib.Core.Path.{◌≡◌, refl, sym, ap, ap₂, subst, ◌∙◌}
 use mathlib.Core.Bool.{Bool, true, false}
 use mathlib.Core.List.{List, ◌∷◌}
-use Prim.Native.Nat.{ℕ, zero, suc, ◌-◌, ◌/◌, ◌≤◌, ◌<◌}
+use Prim.Native.Nat.{ℕ, zero, suc, ◌+◌, ◌-◌, ◌≤◌, ◌<◌}
 use native.Mathlib.Omega.{arith}
 use lib.ListN.{length, get_or, get_or-eq_default}
 use borrow.Author.Tests.{eq-eqb, ne_eqb}
 use Rattle.rules.specs.declared.Past.{Past}
 use Rattle.rules.specs.Units.{to_ticks}
-use Rattle.rules.specs.Lists.{count, place}
+use Rattle.rules.specs.Lists.{place}
 use Rattle.rules.specs.State.{empty}
 use Rattle.rules.specs.Recent.{most_kept, unused, is_kept}
 use Rattle.rules.specs.Records.{ExtendedFound, ExtendedNone}
 use Rattle.rules.specs.Answers.{is_past, latest}
 use Rattle.recall_rules.specs.declared.Verdict.{Verdict}
-use Rattle.recall_rules.specs.Verdicts.{none, has_ended, standing, ends, is_end, ended_as, result_in, past_of, nth_end, lately_from, recent}
+use Rattle.recall_rules.specs.Verdicts.{none, ends, ended_as, result_in, past_of, nth_end, lately_from, recent}
 use Rattle.recall_rules.specs.Work.{extended_response}
-use Rattle.recall_rows.specs.Rows.{width, verdicts_in}
-use Rattle.recall_rows.proofs.Scans.{count-all}
 use Rattle.writing.specs.Puts.{Puts}
-use Rattle.recall_ends.specs.Does.{all}
 use Rattle.recall_ends.proofs.Laws.{tells_first}
-use Rattle.recall_instants.proofs.Words.{as-all, read}
 use Rattle.recall_answers.specs.Replies.{Says}
 
 -- ## The end of a number
-
--- whether row i has it: v is that row of the n in the words m, b what was found of it
-pub end-at : (k i : ℕ) (m : List ℕ) (n : ℕ) {v : Verdict} {b : Bool} → n ≡ length m / width → v ≡ get_or (verdicts_in n m) i none
-    → b ≡ is_end k v.phase →
-    ended_as k (get_or (all m) i none) ≡ b
-end-at k i m n {v} e f g = ap (ended_as k) (sym (read m n e i v f)) ∙ sym g
 
 -- i: the verdict whose end has the number n, or how many there are
 module _ (n i : ℕ) (l : List Verdict) (f : i ≡ place (ended_as n) l) where
@@ -46,10 +36,9 @@ module _ (n i : ℕ) (l : List Verdict) (f : i ≡ place (ended_as n) l) where
   unfolding empty
   nth-none h = ap past_of (sym (get_or-eq_default l none h) ∙ ap (λ (j : ℕ). get_or l j none) f)
 
--- how many have ended; n: the rows of the words m
-pub ends-counted : (m : List ℕ) (n : ℕ) {k : ℕ} → n ≡ length m / width → k ≡ count (λ s. true) (standing has_ended (verdicts_in n m))
-    → k ≡ ends (all m)
-ends-counted m n e f = f ∙ ap (λ (l : List Verdict). count (λ s. true) (standing has_ended l)) (as-all m n e) ∙ count-all has_ended (all m)
+-- all 0
+pub unused-by : (e : Past) → (e.conn ≡ 0) × ((e.id ≡ 0) × ((e.event ≡ 0) × ((e.result ≡ 0) × (e.played ≡ 0)))) → e ≡ unused
+unused-by e p = λ i. record { conn = p.0 i; id = p.1.0 i; event = p.1.1.0 i; result = p.1.1.1.0 i; played = p.1.1.1.1 i }
 
 -- ## The latest, from the newest down
 
@@ -97,12 +86,17 @@ module _ (c x : ℕ) where
           (ap (is_past c x) (sym q) ∙ p))
 
     -- all sixteen were looked at, or all that ended
-    pub seek-full : (n k : ℕ) → k ≡ 0 → Seeking c x l n k → unused ≡ latest c x (recent l)
+    seek-full : (n k : ℕ) → k ≡ 0 → Seeking c x l n k → unused ≡ latest c x (recent l)
     unfolding lately_from latest place
     seek-full n k e s = sym (s ∙ ap (λ (k : ℕ). latest c x (lately_from k n l)) e)
 
-    pub seek-out : (n k : ℕ) → n ≡ 0 → Seeking c x l n k → unused ≡ latest c x (recent l)
+    seek-out : (n k : ℕ) → n ≡ 0 → Seeking c x l n k → unused ≡ latest c x (recent l)
     seek-out n k e s = sym (s ∙ ap (λ (n : ℕ). latest c x (lately_from k n l)) e ∙ none_left k l)
+
+    -- at the end, the ends being `ended`
+    pub seek-end : (n k ended : ℕ) → n ≤ ended - most_kept → k ≡ n + most_kept - ended → Seeking c x l n k → unused ≡ latest c x (recent l)
+    seek-end n zero ended h f s = seek-full n zero refl s
+    seek-end n (suc k) ended h f s = seek-out n (suc k) (omega (arith, h, f)) s
 
 -- ## What is told
 

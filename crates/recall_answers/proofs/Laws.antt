@@ -2,14 +2,17 @@
 -- Rests on recall_ends' laws of what is told, and on rules' laws of names and of records' lengths.
 use mathlib.Core.Path.{◌≡◌, refl, sym, ap, ap₂, subst, ◌∙◌}
 use mathlib.Core.Bool.{Bool, true, false, cond, not}
-use mathlib.Core.List.{List, map}
+use mathlib.Core.List.{List}
 use Prim.Native.Nat.{ℕ, ◌≤◌}
 use native.Mathlib.Omega.{arith}
 use lib.Dec.{eqb}
-use lib.ListN.{length, get_or, get_or-map}
+use lib.ListN.{length, get_or}
 use borrow.Author.Tests.{eq-eqb, ne_eqb}
+use Rattle.std.specs.Prelude.{Option, None, Some}
+use Rattle.std.proofs.lemmas.Option.{none-some}
+use Rattle.rules.specs.declared.Session.{Session}
 use Rattle.rules.specs.declared.Link.{Link}
-use Rattle.rules.specs.declared.Link.TheVariants.{Closed, Opened, Initialised}
+use Rattle.rules.specs.declared.Link.TheVariants.{Closed}
 use Rattle.rules.specs.declared.Request.{Request}
 use Rattle.rules.specs.declared.Message.{Message}
 use Rattle.rules.specs.Bytes.{name_in, padded, same_name}
@@ -29,25 +32,9 @@ use Rattle.recall_requests.specs.declared.Given as checked
 use Rattle.recall_requests.specs.Admits as admits
 use Rattle.recall_answers.specs.declared.Carried.{Carried}
 use Rattle.recall_answers.specs.declared.Effect.TheVariants.{Joins, Enters, Configures}
-use Rattle.rules.specs.declared.Message.TheVariants.{Config}
+use Rattle.rules.specs.declared.Message.TheVariants.{Init, Config}
 use Rattle.recall_answers.specs.declared.Given.{Given}
-use Rattle.recall_answers.specs.Replies.{link_for, pass_of, barred, effected, spoken, Gives, Replies, Reads, Inits, Splices, Says, done}
-
--- ## What a connection is
-
-module _ {k : ℕ} where
-  pub link-opened : k ≡ 1 → Opened ≡ link_for k
-  unfolding link_for
-  link-opened e = rw (eq-eqb k 1 e)
-
-  module _ (n : k ≡ 1 → ⊥) where
-    pub link-initialised : k ≡ 2 → Initialised ≡ link_for k
-    unfolding link_for
-    link-initialised e = rw (ne_eqb k 1 n, eq-eqb k 2 e)
-
-    pub link-closed : (k ≡ 2 → ⊥) → Closed ≡ link_for k
-    unfolding link_for
-    link-closed m = rw (ne_eqb k 1 n, ne_eqb k 2 m)
+use Rattle.recall_answers.specs.Replies.{pass_of, barred, effected, spoken, Gives, Replies, Reads, Inits, Splices, Says, done}
 
 -- ## ChannelName is "CH1"
 
@@ -109,38 +96,44 @@ module _ (c revision : ℕ) (d e : List ℕ) {r len : ℕ} {asked x : List ℕ} 
   init-says : Says (InitResponse c (init_result revision (channel_name d) card_name) card_name) e len o
   init-says = subst (λ (y : Record). Says y e len o) (ap₂ (InitResponse c) init-is (card-name rx)) (tells_first ro)
 
-  -- "else 100 and initialised"
-  pub init-done : r ≡ 100 → bad_init d ≡ false → Inits c revision d e (record { len = len; moved = 0; effect = Enters }) o
-  unfolding answer_read answer_init effected spoken
-  init-done i good h m hardware section =
-      record { pass = rw (← init-is, eq-eqb r 100 i); tells = init-says; left = good; moved = refl }
+  -- g: what is left of an answer that was said
+  module _ {g : Given} (q : g ≡ done len) where
+    -- "else 100 and initialised"
+    pub init-done : r ≡ 100 → bad_init d ≡ false → Inits c revision d e (record { len = g.len; moved = g.moved; effect = Enters }) o
+    unfolding answer_read answer_init effected spoken
+    init-done i good h m =
+        subst (λ (y : Given). Reads c (Some (Init revision)) d h m e (record { len = y.len; moved = y.moved; effect = Enters }) m o) (sym q)
+        (λ hardware section. record { pass = rw (← init-is, eq-eqb r 100 i); tells = init-says; left = good; moved = refl })
 
-  -- "A failed later Init leaves the connection initialised."
-  pub init-failed : (r ≡ 100 → ⊥) → Inits c revision d e (done len) o
-  unfolding answer_read answer_init effected spoken
-  init-failed i h m hardware section =
-      record { pass = rw (← init-is, ne_eqb r 100 i); tells = init-says; left = tt; moved = refl }
+    -- "A failed later Init leaves the connection initialised."
+    pub init-failed : (r ≡ 100 → ⊥) → Inits c revision d e g o
+    unfolding answer_read answer_init effected spoken
+    init-failed i h m =
+        subst (λ (y : Given). Reads c (Some (Init revision)) d h m e y m o) (sym q)
+        (λ hardware section. record { pass = rw (← init-is, ne_eqb r 100 i); tells = init-says; left = tt; moved = refl })
 
 -- ## A message that is read
 
 -- y: the message that was read; x: what it is
-pub reads : (c id : ℕ) (d : List ℕ) (h : Carried) (m : List ℕ) {e : List ℕ} {g : Given} {k o : List ℕ} {y x : Message} → y ≡ read id d
+pub reads : (c id : ℕ) (d : List ℕ) (h : Carried) (m : List ℕ) {e : List ℕ} {g : Given} {k o : List ℕ} {y x : Option Message} → y
+    ≡ read id d
     → y ≡ x →
     Reads c x d h m e g k o → Reads c (read id d) d h m e g k o
-reads c id d h m {e} {g} {k} {o} p q r = subst (λ (z : Message). Reads c z d h m e g k o) (sym q ∙ p) r
+reads c id d h m {e} {g} {k} {o} p q r = subst (λ (z : Option Message). Reads c z d h m e g k o) (sym q ∙ p) r
 
 -- 02, CR 6: the configuration is left to who has the log
-pub configures : (c : ℕ) (d : List ℕ) (h : Carried) (m : List ℕ) {e : List ℕ}
-    → Reads c Config d h m e (record { len = 0; moved = 0; effect = Configures }) m e
+pub configures : (c : ℕ) (d : List ℕ) (h : Carried) (m : List ℕ) {e : List ℕ} {g : Given} → g ≡ done 0
+    → Reads c (Some Config) d h m e (record { len = g.len; moved = g.moved; effect = Configures }) m e
 unfolding answer_read effected spoken
-configures c d h m hardware section = record { pass = refl; tells = tells_none; left = refl; moved = refl }
+configures c d h m {e} q =
+    subst (λ (y : Given). Reads c (Some Config) d h m e (record { len = y.len; moved = y.moved; effect = Configures }) m e) (sym q)
+    (λ hardware section. record { pass = refl; tells = tells_none; left = refl; moved = refl })
 
 -- ## "first that applies"
 
-bars : (c id : ℕ) (h : Carried) {l : Link} {t v : Bool} → l ≡ link_for (get_or h.links c 0) → t ≡ barred l id → t ≡ v →
-    barred (get_or (map link_for h.links) c Closed) id ≡ v
-unfolding link_for
-bars c id h p q i = ap (λ (y : Link). barred y id) (get_or-map link_for h.links c 0 ∙ sym p) ∙ sym q ∙ i
+bars : (c id : ℕ) (h : Carried) {l : Link} {t v : Bool} → l ≡ get_or h.links c Closed → t ≡ barred l id → t ≡ v →
+    barred (get_or h.links c Closed) id ≡ v
+bars c id h p q i = ap (λ (y : Link). barred y id) (sym p) ∙ sym q ∙ i
 
 module _ (c id : ℕ) (d : List ℕ) (h : Carried) (m : List ℕ) {e : List ℕ} {g : Given} where
   -- "1. ID 0x0000: no answer."
@@ -149,7 +142,7 @@ module _ (c id : ℕ) (d : List ℕ) (h : Carried) (m : List ℕ) {e : List ℕ}
   first z q hardware section = rw (eq-eqb id 0x0000 z) (told c d section q refl tells_none)
 
   -- l: what the connection is; t: whether that bars the message
-  module _ (n : id ≡ 0x0000 → ⊥) {l : Link} {t : Bool} (p : l ≡ link_for (get_or h.links c 0)) (q : t ≡ barred l id) where
+  module _ (n : id ≡ 0x0000 → ⊥) {l : Link} {t : Bool} (p : l ≡ get_or h.links c Closed) (q : t ≡ barred l id) where
     -- "2. Not initialised and not Init_Request: General_Response 103."
     pub second : t ≡ true → {o : List ℕ} → (g ≡ done g.len) × Says (General c 103) e g.len o → Replies c id d h m e g m o
     unfolding answer
@@ -186,30 +179,35 @@ refused-unmoved clock c r l =
     by (λ (a : Spliced). a.accepted ≡ false → a.moved ≡ 0) (eqb (splice_result clock c r (requested c r l) l) 100) _ _
     (λ t e. absurd (clash true refl e)) (λ t e. refl)
 
+not-some : {A : Type 0} (b : Bool) (x : A) → cond b (Some x) None ≡ None → b ≡ false
+not-some true x e = absurd (none-some x (sym e))
+not-some false x e = refl
+
 -- a: what was given by the checks
 module _ (c : ℕ) (r : Request) (h : Carried) (m : List ℕ) {e : List ℕ} {a : checked.Given} {k o : List ℕ}
     (w : admits.Splices h.clock.0 c r m e a k o) where
-  -- f: the session waits from now on
-  pub splice-joins : a.accepted ≡ true → Splices c r h m e (record { len = a.len; moved = a.moved; effect = Joins a.new }) k o
+  -- the session x waits from now on
+  pub splice-joins : {x : Session} → a.accepted ≡ Some x → Splices c r h m e (record { len = a.len; moved = a.moved; effect = Joins x }) k o
   unfolding answer_read effected spoken
   splice-joins t d hardware section =
       record {
         pass = ap (λ (l : List Verdict). with_verdicts l (pass_of hardware h m))
-            (sym w.holds ∙ ap (λ (b : Bool). admits.joined b a.new (all k)) t);
+            (sym w.holds ∙ ap (λ (x : Option Session). admits.joined x (all k)) t);
         tells = w.tells;
         left = tt;
         moved = w.moved;
       }
 
-  pub splice-refused : {g : Given} → a.accepted ≡ false → g ≡ done a.len → Splices c r h m e g k o
+  pub splice-refused : {g : Given} → a.accepted ≡ None → g ≡ done a.len → Splices c r h m e g k o
   unfolding answer_read effected spoken
   splice-refused t q d hardware section =
       subst (λ (y : Given). Gives c d section (splices (answer_splice h.clock.0 c r (all m)) (pass_of hardware h m)) (pass_of hardware h m)
       e y k o) (sym q)
       (record {
         pass = ap (λ (l : List Verdict). with_verdicts l (pass_of hardware h m))
-            (sym w.holds ∙ ap (λ (b : Bool). admits.joined b a.new (all k)) t);
+            (sym w.holds ∙ ap (λ (x : Option Session). admits.joined x (all k)) t);
         tells = w.tells;
         left = tt;
-        moved = sym (refused-unmoved h.clock.0 c r (all m) (sym w.accepted ∙ t));
+        moved = sym (refused-unmoved h.clock.0 c r (all m)
+            (not-some (answer_splice h.clock.0 c r (all m)).accepted _ (sym w.accepted ∙ t)));
       })

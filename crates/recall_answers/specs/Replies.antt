@@ -1,10 +1,10 @@
 -- What a pass over the log carries in code, and what an answer to a message promises of it, of the lent words and of the buffer.
-use Rattle.std.specs.Prelude.{◌≡◌, Bool, false, cond, not, ◌&&◌, List, [], ◌∷◌, ◌++◌, map, ℕ, ◌+◌, ◌≤◌, eqb, length, drop}
+use Rattle.std.specs.Prelude.{Option, None, Some, IfSome, ◌≡◌, Bool, false, not, ◌&&◌, List, [], ◌∷◌, ◌++◌, map, ℕ, ◌+◌, ◌≤◌, eqb, length}
+use Rattle.std.specs.Prelude.{drop}
 use Rattle.rules.specs.declared.Link.{Link}
 use Rattle.rules.specs.declared.Message.{Message}
 use Rattle.rules.specs.declared.Message.TheVariants.{Init, Splice}
 use Rattle.rules.specs.declared.Request.{Request}
-use Rattle.rules.specs.declared.Link.TheVariants.{Closed, Opened, Initialised}
 use Rattle.rules.specs.Bytes.{message_size, data_of}
 use Rattle.rules.specs.Reading.{init_request, bad_init}
 use Rattle.rules.specs.Hardware.{hardware_in}
@@ -22,26 +22,23 @@ use Rattle.recall_answers.specs.declared.Given.{Given}
 
 -- ## What is carried
 
--- a connection's word: 0 closed, 1 open, 2 initialised
-unfoldable pub link_for : ℕ → Link
-link_for k = cond (eqb k 1) Opened (cond (eqb k 2) Initialised Closed)
-
 -- the pass of what is carried and of the verdicts in the words m; the Hardware_Configs stand in the log
 abbrev pub pass_of : (hardware : List (List ℕ)) → Carried → (m : List ℕ) → Pass
 pass_of hardware h m =
-    record { name = card_name; clock = h.clock.0; links = map link_for h.links; hardware = hardware; verdicts = all m }
+    record { name = card_name; clock = h.clock.0; links = h.links; hardware = hardware; verdicts = all m }
 
--- 02, CR 6: "the Hardware_Config of their Init_Request": of the message that stands in the log l at the place p; 0: of none
-unfoldable pub hardware_at : (l : List ℕ) (p : ℕ) → List ℕ
-hardware_at l p = cond (eqb p 0) no_hardware (hardware_in (data_of (message_size (drop p l)) (drop p l)))
+-- 02, CR 6: "the Hardware_Config of their Init_Request": of the message that stands in the log l at the place p, if any is kept
+unfoldable pub hardware_at : (l : List ℕ) → Option ℕ → List ℕ
+hardware_at l None = no_hardware
+hardware_at l (Some p) = hardware_in (data_of (message_size (drop p l)) (drop p l))
 
 abbrev pub hardwares : (l : List ℕ) → Carried → List (List ℕ)
 hardwares l h = map (hardware_at l) h.places
 
 -- an Init_Request that can be read stands there
-pub record Placed (l : List ℕ) (p : ℕ) : Type 0 where
-  pub whole : (p ≡ 0 → ⊥) → p + (8 + message_size (drop p l)) ≤ length l
-  pub good : (p ≡ 0 → ⊥) → bad_init (data_of (message_size (drop p l)) (drop p l)) ≡ false
+pub record Placed (l : List ℕ) (p : Option ℕ) : Type 0 where
+  pub whole : IfSome p (λ n. n + (8 + message_size (drop n l)) ≤ length l)
+  pub good : IfSome p (λ n. bad_init (data_of (message_size (drop n l)) (drop n l)) ≡ false)
 
 -- ## The answer to a message
 
@@ -87,7 +84,7 @@ Replies c id d h m e g k o =
     g k o
 
 -- of a message that is read
-abbrev pub Reads : (c : ℕ) → Message → (d : List ℕ) → Carried → (m e : List ℕ) → Given → (k o : List ℕ) → Type 0
+abbrev pub Reads : (c : ℕ) → Option Message → (d : List ℕ) → Carried → (m e : List ℕ) → Given → (k o : List ℕ) → Type 0
 Reads c x d h m e g k o =
     (hardware : List (List ℕ)) (section : List ℕ)
     → Gives c d section (answer_read c x d section (pass_of hardware h m)) (pass_of hardware h m)
@@ -95,11 +92,11 @@ Reads c x d h m e g k o =
 
 -- an Init_Request, whatever is carried and held
 abbrev pub Inits : (c revision : ℕ) (d e : List ℕ) → Given → (o : List ℕ) → Type 0
-Inits c revision d e g o = (h : Carried) (m : List ℕ) → Reads c (Init revision) d h m e g m o
+Inits c revision d e g o = (h : Carried) (m : List ℕ) → Reads c (Some (Init revision)) d h m e g m o
 
 -- a Splice_Request, whatever data it was read from
 abbrev pub Splices : (c : ℕ) → Request → Carried → (m e : List ℕ) → Given → (k o : List ℕ) → Type 0
-Splices c r h m e g k o = (d : List ℕ) → Reads c (Splice r) d h m e g k o
+Splices c r h m e g k o = (d : List ℕ) → Reads c (Some (Splice r)) d h m e g k o
 
 -- one record stands at the start of the buffer that held e
 abbrev pub Says : Record → (e : List ℕ) → ℕ → (o : List ℕ) → Type 0

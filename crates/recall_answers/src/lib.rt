@@ -1,7 +1,8 @@
 // 01's five steps of answering over verdicts, Init, Alive, ExtendedData, and GetConfig from the log.
+// What stands in the first engine too stays twice: the second engine has rules of its own (02, CR 12).
 #![tactic(auto)]
 
-ghost use Rattle.std.specs.Prelude.{◌≡◌, false, ◌≤◌, ◌<◌, length, get_or};
+ghost use Rattle.std.specs.Prelude.{IfSome, ◌≡◌, false, ◌/◌, ◌≤◌, ◌<◌, length, get_or};
 ghost use Rattle.rules.specs.Lists.{All, place};
 ghost use Rattle.rules.specs.Bytes.{padded, name_in};
 ghost use Rattle.rules.specs.Card.{card_name};
@@ -15,23 +16,23 @@ ghost use Rattle.rules.specs.HouseNumbers.{longest_section};
 ghost use Rattle.rules.specs.Units.{horizon};
 ghost use Rattle.recall_rules.specs.Verdicts.{is_end, ended_as, result_in, nth_end, recent};
 ghost use Rattle.recall_rules.specs.Work.{air_state, air_id, extended_response};
-ghost use Rattle.recall_ends.specs.Does.{all};
+ghost use Rattle.recall_rows.specs.Rows.{width, all};
+ghost use Rattle.recall_rows.specs.Scans.{place_in};
 ghost use Rattle.recall_instants.specs.Moments.{Keeps};
-ghost use Rattle.recall_answers.specs.Replies.{link_for, hardwares, Placed, barred, Replies, Reads, Inits, Splices, Says, done};
+ghost use Rattle.recall_answers.specs.Replies.{hardwares, Placed, barred, Replies, Reads, Inits, Splices, Says, done};
 
 use reading::numbers::number2;
 use recall_rows::{Stand, Test};
 use recall_rules::Phase;
 use rules::{Link, Message, Ninths, Past, Request, Session};
 
-// What a pass over the log carries beside the verdicts: the clock; of each connection what it is (0 closed, 1 open, 2 initialised) and
-// where
-// in the log the message stands whose Hardware_Config is kept (0: none); and how many verdicts there are.
+// What a pass over the log carries beside the verdicts: the clock; of each connection what it is, and where in the log the message stands
+// whose Hardware_Config is kept; and how many verdicts there are.
 #[derive(Clone, Copy)]
 pub struct Carried {
     pub clock: Ninths,
-    pub links: [u64; 4],
-    pub places: [usize; 4],
+    pub links: [Link; 4],
+    pub places: [Option<usize>; 4],
     pub rows: usize,
 }
 
@@ -58,30 +59,12 @@ fn channel() -> [u8; 32]
     ensures { result ≡ padded card_name }
 {
     let mut r = [0; 32];
-    r[0] = b'C';
-    r[1] = b'H';
-    r[2] = b'1';
+    r[..3].copy_from_slice(b"CH1");
     r
 }
 
-// What a connection is.
-pub fn link_of(h: Carried, conn: u32) -> Link
-    requires { conn ≤ 3 }
-    ensures { result ≡ link_for (get_or h.links conn 0) }
-{
-    let c = conn as usize;
-    let links = h.links;
-    let code = links[c];
-    if code == 1 {
-        return Link::Opened;
-    }
-    if code == 2 {
-        return Link::Initialised;
-    }
-    Link::Closed
-}
-
 // Init: "Revision not 2 gives 102, another name 104, else 100".
+// A number, as the documents name it and `init_result` of rules gives it.
 fn init_result(revision: u16, asked: &[u8], name: &[u8]) -> u16
     ensures { result ≡ init_result revision asked.now (name_in name.now) }
 {
@@ -105,16 +88,11 @@ fn answer_init(conn: u32, revision: u16, d: &[u8], out: &mut [u8]) -> Given
     let len = writing::init_response(&mut *out, conn as u64, r, &name);
     if r == 100 {
         return Given {
-            len: len,
-            moved: 0,
             effect: Effect::Enters,
+            ..said(len)
         };
     }
-    Given {
-        len: len,
-        moved: 0,
-        effect: Effect::Nothing,
-    }
+    said(len)
 }
 
 // Alive: "State 2 and the SessionID on air, or State 1 and 0xFFFFFFFF; the present clock".
@@ -124,24 +102,21 @@ fn answer_alive(m: &[u64], clock: Ninths, conn: u32, out: &mut [u8]) -> usize
         out.old result out.new }
 {
     let time = units::to_micros(clock);
-    let n = recall_ends::rows_in(m);
-    let i = recall_instants::on_air(m);
-    if i < n {
-        let v = recall_rows::load(m, n, i);
+    if let Some(i) = recall_instants::on_air(m) {
+        let v = recall_rows::load(m, i);
         return writing::alive_response(&mut *out, conn as u64, 2, v.session.id, time);
     }
     writing::alive_response(&mut *out, conn as u64, 1, 0xFFFFFFFF, time)
 }
 
 // The result of an end; 0 of what has not ended.
+// 0 and no Option: `result_in` of recall_rules' Verdicts is a number.
 fn result_in(phase: Phase) -> u64
     ensures { result ≡ result_in phase }
 {
     match phase {
-        Phase::Out => 0,
-        Phase::Waits => 0,
-        Phase::Started => 0,
         Phase::Ended(_, result) => result,
+        Phase::Out | Phase::Waits | Phase::Started => 0,
     }
 }
 
@@ -149,90 +124,63 @@ fn result_in(phase: Phase) -> u64
 fn is_end(phase: Phase, number: u64) -> bool
     ensures { result ≡ is_end number phase }
 {
-    match phase {
-        Phase::Out => false,
-        Phase::Waits => false,
-        Phase::Started => false,
-        Phase::Ended(nth, _) => number == nth,
-    }
+    matches!(phase, Phase::Ended(nth, _) if number == nth)
 }
 
-// The verdict whose end has that number, or how many there are.
-fn find_end(m: &[u64], number: u64) -> usize
-    ensures { result ≡ place (ended_as number) (all m.now) }
+// The verdict whose end has that number.
+fn find_end(m: &[u64], number: u64) -> Option<usize>
+    ensures first { result ≡ place_in (all m.now) (place (ended_as number) (all m.now)) }
+    ensures in_bounds { IfSome result (λ i. i < length m.now / width) }
 {
-    let n = recall_ends::rows_in(m);
-    let mut i = 0;
-    while i < n {
-        let v = recall_rows::load(m, n, i);
-        let phase = v.phase;
-        if is_end(phase, number) {
-            return i;
+    for i in 0..recall_rows::rows_in(m) {
+        let v = recall_rows::load(m, i);
+        if is_end(v.phase, number) {
+            return Some(i);
         }
-        i += 1;
     }
-    i
+    None
 }
 
 // 02, CR 8: what is told of the end of that number; all 0 where none has it.
+// No Option: that the result 0 says none is the definition's (`nth_end` of recall_rules' Verdicts, `latest` of rules).
 fn nth_end(m: &[u64], number: u64) -> Past
     ensures { result ≡ nth_end number (all m.now) }
 {
-    let n = recall_ends::rows_in(m);
-    let i = find_end(m, number);
-    if i < n {
-        let v = recall_rows::load(m, n, i);
-        let x = v.session;
-        let phase = v.phase;
-        return Past {
-            conn: x.conn,
-            id: x.id,
-            event: x.event,
-            result: result_in(phase),
-            played: units::to_long_ticks(x.played),
-        };
-    }
+    let Some(i) = find_end(m, number) else {
+        return Past::default();
+    };
+    let v = recall_rows::load(m, i);
+    let x = v.session;
     Past {
-        conn: 0,
-        id: 0,
-        event: 0,
-        result: 0,
-        played: 0,
+        conn: x.conn,
+        id: x.id,
+        event: x.event,
+        result: result_in(v.phase),
+        played: units::to_long_ticks(x.played),
     }
 }
 
 // Whether something is kept, of the connection's number.
+// No ==: it is compared with two numbers.
 fn is_past(e: Past, conn: u64, id: u64) -> bool
     ensures { result ≡ is_past conn id e }
 {
-    if e.result == 0 {
-        return false;
-    }
-    conn == e.conn && id == e.id
+    e.result != 0 && conn == e.conn && id == e.id
 }
 
 // "the asking connection's latest ended session of that number": of the 16 ends with the highest numbers, from the highest down.
+// No Option, as `nth_end`.
 fn latest_end(m: &[u64], conn: u64, id: u64) -> Past
     ensures { result ≡ latest conn id (recent (all m.now)) }
 {
-    let n = recall_ends::rows_in(m);
-    let mut number = recall_rows::count(m, n, Stand::Ended, Test::Any);
-    let mut left: usize = 16;
-    while left > 0 && number > 0 {
-        number -= 1;
-        left -= 1;
+    let ended = recall_rows::count(m, Stand::Ended, Test::Any);
+    for number in (ended.saturating_sub(16)..ended).rev() {
         let e = nth_end(m, number as u64);
         if is_past(e, conn, id) {
             return e;
         }
     }
-    Past {
-        conn: 0,
-        id: 0,
-        event: 0,
-        result: 0,
-        played: 0,
-    }
+    Past::default()
 }
 
 // 02, CR 8: "121 with the SessionID alone where none is kept".
@@ -282,15 +230,14 @@ fn answer_splice(m: &mut [u64], h: Carried, conn: u32, r: Request, out: &mut [u8
 {
     let clock = h.clock;
     let a = recall_requests::answer_splice(&mut *m, clock, conn as u64, r, &mut *out);
-    if a.accepted {
-        let new = a.new;
-        return Given {
+    match a.accepted {
+        Some(new) => Given {
             len: a.len,
             moved: a.moved,
             effect: Effect::Joins(new),
-        };
+        },
+        None => said(a.len),
     }
-    said(a.len)
 }
 
 // A message of that list; "5. Not readable: General_Response 123."
@@ -301,24 +248,22 @@ fn answer_read(m: &mut [u64], h: Carried, conn: u32, id: u16, d: &[u8], out: &mu
     ensures { Reads conn («read» id d.now) d.now h m.old out.old result
         m.new out.new }
 {
-    let message = reading::read(id, d);
-    match message {
-        Message::Init(revision) => answer_init(conn, revision, d, &mut *out),
-        Message::Alive => said(answer_alive(&*m, h.clock, conn, &mut *out)),
-        Message::Splice(r) => answer_splice(&mut *m, h, conn, r, &mut *out),
-        Message::Abort(x) => said(recall_requests::answer_abort(
+    match reading::read(id, d) {
+        Some(Message::Init(revision)) => answer_init(conn, revision, d, &mut *out),
+        Some(Message::Alive) => said(answer_alive(&*m, h.clock, conn, &mut *out)),
+        Some(Message::Splice(r)) => answer_splice(&mut *m, h, conn, r, &mut *out),
+        Some(Message::Abort(x)) => said(recall_requests::answer_abort(
             &mut *m,
             conn as u64,
             x as u64,
             &mut *out,
         )),
-        Message::Extended(x) => said(answer_extended(&*m, conn, x, &mut *out)),
-        Message::Config => Given {
-            len: 0,
-            moved: 0,
+        Some(Message::Extended(x)) => said(answer_extended(&*m, conn, x, &mut *out)),
+        Some(Message::Config) => Given {
             effect: Effect::Configures,
+            ..said(0)
         },
-        Message::Unreadable => general(conn, 123, &mut *out),
+        None => general(conn, 123, &mut *out),
     }
 }
 
@@ -328,8 +273,7 @@ fn is_barred(link: Link, id: u16) -> bool
 {
     match link {
         Link::Initialised => false,
-        Link::Opened => id != reading::INIT_REQUEST,
-        Link::Closed => id != reading::INIT_REQUEST,
+        Link::Opened | Link::Closed => id != reading::INIT_REQUEST,
     }
 }
 
@@ -345,7 +289,7 @@ pub fn answer(m: &mut [u64], h: Carried, conn: u32, id: u16, d: &[u8], out: &mut
     if id == 0x0000 {
         return said(0);
     }
-    let link = link_of(h, conn);
+    let link = h.links[conn as usize];
     if is_barred(link, id) {
         return general(conn, 103, &mut *out);
     }
@@ -368,13 +312,9 @@ pub fn answer_config(log: &[u8], h: Carried, conn: u32, section: &[u8], out: &mu
         out.old result out.new }
 {
     let name = channel();
-    let c = conn as usize;
-    let places = h.places;
-    let p = places[c];
-    if p == 0 {
-        let none = [0u8; 2];
-        return writing::config_response(&mut *out, conn as u64, &name, &none, section);
-    }
+    let Some(p) = h.places[conn as usize] else {
+        return writing::config_response(&mut *out, conn as u64, &name, &[0u8; 2], section);
+    };
     let message = &log[p..];
     let size = number2(message, 2);
     let hardware = reading::hardware(reading::data_of(message, size as usize));

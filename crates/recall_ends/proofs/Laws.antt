@@ -1,4 +1,4 @@
--- Laws of what this crate promises: records one behind another, and pieces of work one after another.
+-- Laws of what this crate promises: records one behind another, and pieces of work one after another, with the room for all of them.
 -- Rests on rules' laws of what is written into a buffer.
 use mathlib.Core.Path.{◌≡◌, refl, sym, ap, ap₂, subst, ◌∙◌}
 use mathlib.Core.Bool.{Bool, true}
@@ -23,8 +23,7 @@ use Rattle.recall_rules.specs.declared.Phase.{Phase}
 use Rattle.recall_rules.specs.declared.Phase.TheVariants.{Ended}
 use Rattle.recall_rules.specs.declared.Verdict.{Verdict}
 use Rattle.recall_rules.specs.Verdicts.{is_waiting, has_ended, none, standing, which, session_of, as_ended, over}
-use Rattle.recall_rows.specs.Rows.{width, verdicts_in}
-use Rattle.recall_rows.proofs.Rows.{length-in}
+pub use Rattle.recall_rows.proofs.Rows.{length-all}
 use Rattle.recall_rows.proofs.Scans.{count-all}
 use Rattle.recall_rules.proofs.Links.{waiting_in, one_less, dismissed-none, dismissed-more}
 use Rattle.recall_rules.specs.Work.{Turn, quiet, and_then, dismissed, evicted, cancelled, aborted}
@@ -157,35 +156,24 @@ length-then t f = ap length (output-append t.written (f t.verdicts).written)
 
 -- call i ends: its row says so, and its end is written
 pub one-over : (how : Ending) (i : ℕ) (m k : List ℕ) (x : Session) (f : Phase) {e o : List ℕ} {len to : ℕ} → x ≡ session_of (all m) i
-    → f ≡ as_ended how x (all m)
-    → length k ≡ length m → (n : ℕ) → n ≡ length m / width → verdicts_in n k ≡ set (verdicts_in n m) i (record { phase = f; session = x })
+    → f ≡ as_ended how x (all m) → all k ≡ set (all m) i (record { phase = f; session = x })
     → Tells e len (ended how x ∷ []) to o
     → Turns e len (one_over how i (all m)) k to o
-one-over how i m k x f {e} {o} {len} {to} a b long n y s t =
+one-over how i m k x f {e} {o} {len} {to} a b s t =
     record {
-      holds = ap (λ (j : ℕ). verdicts_in (j / width) k) long ∙ ap (λ (j : ℕ). verdicts_in j k) (sym y) ∙ s
-          ∙ ap (λ (j : ℕ). set (verdicts_in j m) i (record { phase = f; session = x })) y
-          ∙ ap₂ (λ (g : Phase) (y : Session). set (all m) i (record { phase = g; session = y }))
+      holds = s ∙ ap₂ (λ (g : Phase) (y : Session). set (all m) i (record { phase = g; session = y }))
           (b ∙ ap (λ (y : Session). as_ended how y (all m)) a) a;
       tells = subst (λ (y : Session). Tells e len (ended how y ∷ []) to o) a t;
     }
 
--- the session of row i of n
-pub loaded : (n i : ℕ) (m : List ℕ) (v : Verdict) → n ≡ length m / width → v ≡ get_or (verdicts_in n m) i none
-    → v.session ≡ session_of (all m) i
-loaded n i m v e f = ap (λ (w : Verdict). w.session) (f ∙ ap (λ (j : ℕ). get_or (verdicts_in j m) i none) e)
+-- the session of a row
+pub loaded : (i : ℕ) (m : List ℕ) (v : Verdict) → v ≡ get_or (all m) i none → v.session ≡ session_of (all m) i
+loaded i m v f = ap (λ (w : Verdict). w.session) f
 
 -- the phase that is stored
-pub ended-phase : (how : Ending) (x : Session) (m : List ℕ) (nth r : ℕ) → (n : ℕ) → n ≡ length m / width
-    → nth ≡ count (λ s. true) (standing has_ended (verdicts_in n m)) → r ≡ result_of (ended how x) → Ended nth r ≡ as_ended how x (all m)
-ended-phase how x m nth r n e a b =
-    ap₂ (λ (j h : ℕ). Ended j h) (a ∙ ap (λ (j : ℕ). count (λ s. true) (standing has_ended (verdicts_in j m))) e ∙ count-all has_ended
-    (all m))
-    b
-
--- as many verdicts as rows
-pub length-all : (m : List ℕ) → length (all m) ≡ length m / width
-length-all m = length-in (length m / width) m
+pub ended-phase : (how : Ending) (x : Session) (m : List ℕ) (nth r : ℕ) → nth ≡ count (λ s. true) (standing has_ended (all m))
+    → r ≡ result_of (ended how x) → Ended nth r ≡ as_ended how x (all m)
+ended-phase how x m nth r a b = ap₂ (λ (j h : ℕ). Ended j h) (a ∙ count-all has_ended (all m)) b
 
 -- connection c's number x is followed by call i of the words m
 module _ (r c x i : ℕ) (m : List ℕ) (f : i ≡ which is_waiting (follows c x) (all m)) where
@@ -235,24 +223,32 @@ module _ (r c x i : ℕ) (m : List ℕ) (f : i ≡ which is_waiting (follows c x
   pub none_done : {e : List ℕ} {len : ℕ} → length (all m) ≤ i → Does (dismissed r c x) len m e len m e
   none_done {e} {len} h = subst (λ (t : Turn). Turns e len t m len e) (sym (dismissed-none r c x (all m) (omega (arith, h, f)))) turns-quiet
 
--- ## One piece of work after another, as it is called
+-- ## One piece of work, and another from where it ended
 
-module _ (whole f g : List Verdict → Turn) (m e : List ℕ) (len : ℕ) (is : whole (all m) ≡ and_then (f (all m)) g)
-    (room : Room whole len m e)
-  where
-    two : len + (length (output (f (all m)).written) + length (output (g (f (all m)).verdicts).written)) ≤ length e
-    two = omega (arith, room, ap (λ (t : Turn). length (output t.written)) is, length-then (f (all m)) g)
+module _ {w : Turn} (t : Turn) (f : List Verdict → Turn) (is : w ≡ and_then t f) (e : List ℕ) (len : ℕ)
+    (room : len + length (output w.written) ≤ length e) where
+  total : len + (length (output t.written) + length (output (f t.verdicts).written)) ≤ length e
+  total = omega (arith, room, ap (λ (u : Turn). length (output u.written)) is, length-then t f)
 
-    pub first-room : Room f len m e
-    first-room = omega (arith, two)
+  pub first-room : len + length (output t.written) ≤ length e
+  first-room = omega (arith, total)
 
-    module _ {k o : List ℕ} {to : ℕ} (d : Does f len m e to k o) where
-      pub second-room : length o ≡ length e → Room g to k o
-      second-room z = subst (λ (v : List Verdict). to + length (output (g v).written) ≤ length o) (sym d.holds)
-          (omega (arith, two, z, d.tells.count))
+  module _ {k o : List ℕ} {to : ℕ} (d : Turns e len t k to o) where
+    pub next-room : length o ≡ length e → Room f to k o
+    next-room z = subst (λ (v : List Verdict). to + length (output (f v).written) ≤ length o) (sym d.holds)
+        (omega (arith, total, z, d.tells.count))
 
-      pub both-done : {k' o' : List ℕ} {to' : ℕ} → Does g to k o to' k' o' → Does whole len m e to' k' o'
-      both-done {k'} {o'} {to'} v = subst (λ (t : Turn). Turns e len t k' to' o') (sym is) (turns_then (f (all m)) g first-room d v)
+    pub both-done : {k' o' : List ℕ} {to' : ℕ} → Turns o to (f (all k)) k' to' o' → Turns e len w k' to' o'
+    both-done {k'} {o'} {to'} g = subst (λ (u : Turn). Turns e len u k' to' o') (sym is) (turns_then t f first-room d g)
+
+-- ## The same work
+
+module _ {v w : Turn} (is : v ≡ w) where
+  pub as_room : (e : List ℕ) (len : ℕ) → len + length (output v.written) ≤ length e → len + length (output w.written) ≤ length e
+  as_room e len h = omega (arith, h, ap (λ (u : Turn). length (output u.written)) is)
+
+  pub as-done : {e k o : List ℕ} {len to : ℕ} → Turns e len w k to o → Turns e len v k to o
+  as-done {e} {k} {o} {len} {to} d = subst (λ (u : Turn). Turns e len u k to o) (sym is) d
 
 -- how the pieces are made up
 pub cancelled-is : (p : Session → Bool) (l : List Verdict) → cancelled p l
@@ -264,10 +260,10 @@ pub aborted-is : (c x : ℕ) (l : List Verdict) → aborted c x l ≡ and_then (
 unfolding aborted
 aborted-is c x l = refl
 
--- c and x are the connection and the number of call i
-pub chain-is : (how : Ending) (r i c x : ℕ) (l : List Verdict) → c ≡ (session_of l i).conn → x ≡ (session_of l i).id
-    → chain_over how r i l ≡ and_then (one_over how i l) (dismissed r c x)
-chain-is how r i c x l e f = ap₂ (λ (d y : ℕ). and_then (one_over how i l) (dismissed r d y)) (sym e) (sym f)
+-- x is the session of call i
+pub chain-is : (how : Ending) (r i : ℕ) (x : Session) (l : List Verdict) → x ≡ session_of l i
+    → chain_over how r i l ≡ and_then (one_over how i l) (dismissed r x.conn x.id)
+chain-is how r i x l e = ap (λ (y : Session). and_then (one_over how i l) (dismissed r y.conn y.id)) (sym e)
 
 module _ (t i : ℕ) (l : List Verdict) (f : i ≡ which is_waiting (starts_at t) l) where
   pub evicted-one : i < length l → evicted t l ≡ chain_over (Response 109) 109 i l
@@ -277,7 +273,3 @@ module _ (t i : ℕ) (l : List Verdict) (f : i ≡ which is_waiting (starts_at t
   pub evicted-none : length l ≤ i → evicted t l ≡ quiet l
   unfolding evicted
   evicted-none h = rw (← f, le-ltb i (length l) h) refl
-
-pub evicted-does : (t i : ℕ) (m : List ℕ) → i ≡ which is_waiting (starts_at t) (all m) → i < length (all m) → {e k o : List ℕ} {len to : ℕ}
-    → Does (chain_over (Response 109) 109 i) len m e to k o → Does (evicted t) len m e to k o
-evicted-does t i m f h {e} {k} {o} {len} {to} d = subst (λ (u : Turn). Turns e len u k to o) (sym (evicted-one t i (all m) f h)) d

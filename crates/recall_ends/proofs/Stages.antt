@@ -1,13 +1,14 @@
 -- Those that leave one by one, a step at a time: more steps than there are change nothing. Assumes nothing.
-use mathlib.Core.Path.{◌≡◌, refl, sym, ap, fun_ext, subst, ◌∙◌}
-use mathlib.Core.Logic.{inl, inr}
+use mathlib.Core.Path.{◌≡◌, refl, sym, ap, fun_ext, ◌∙◌}
 use mathlib.Core.Bool.{Bool, true, false, cond, not, ◌&&◌, ◌||◌}
 use mathlib.Core.List.{List, [], ◌∷◌, append_assoc}
-use Prim.Native.Nat.{ℕ, zero, suc, ◌+◌, ◌/◌, ◌≤◌, ◌<◌}
+use Prim.Native.Nat.{ℕ, zero, suc, ◌≤◌, ◌<◌}
 use native.Mathlib.Omega.{arith}
 use lib.Dec.{leb, ltb}
 use lib.ListN.{length, get_or, length-set}
 use borrow.Author.Tests.{ltb-true, ltb-false, lt-ltb, le-ltb, leb-true, leb-false}
+use Rattle.std.specs.declared.option.Option.{Option}
+use Rattle.std.specs.declared.option.Option.TheVariants.{Some, None}
 use Rattle.rules.specs.declared.Session.{Session}
 use Rattle.rules.specs.declared.Ending.{Ending}
 use Rattle.rules.specs.Lists.{bit, some, count}
@@ -19,14 +20,12 @@ use Rattle.recall_rules.specs.declared.Verdict.{Verdict}
 use Rattle.recall_rules.specs.Verdicts.{is_waiting, has_started, none, verdict, standing, stands, which, session_of, as_ended, over, first}
 use Rattle.recall_rules.specs.Work.{Turn, quiet, writes, and_then, leaving, higher, started_ones, airs, on_air}
 use Rattle.recall_rules.specs.Work.{as_was, endings}
-use Rattle.recall_rows.specs.declared.Test.TheVariants.{Any}
 use Rattle.recall_rows.specs.declared.Order.TheVariants.{Highest}
-use Rattle.recall_rows.specs.Rows.{width, verdicts_in}
-use Rattle.recall_rows.specs.Scans.{is_better, first_in}
+use Rattle.recall_rows.specs.Scans.{place_in}
 use Rattle.recall_rules.proofs.Found.{length-standing, count_set, counted-at}
-use Rattle.recall_rows.proofs.Best.{strict, Leading, leading-none, leading-next, leading-stays, leading-out, better-true, better-false}
+use Rattle.recall_rows.proofs.Scans.{found, missing}
+use Rattle.recall_rows.proofs.Best.{strict, none_found}
 use Rattle.recall_ends.specs.Does.{all, one_over, Top, by_access, started_end}
-use Rattle.recall_ends.proofs.Laws.{loaded, length-all}
 
 -- one piece of work after another, and a third
 pub then-then : (t : Turn) (f g : List Verdict → Turn) → and_then (and_then t f) g ≡ and_then t (λ l. and_then (f l) g)
@@ -171,45 +170,17 @@ airs-top l s k = go (leb top s.access) refl
                   (lt-ltb s.access top (leb-false top s.access e))),
             ))
 
--- the best of the first i is found
-record Led (l : List Verdict) (i : ℕ) : Type 0 where
-  best : ℕ
-  is : Leading has_started higher (strict Highest) (λ s. true) l i best
-
-led : (l : List Verdict) (i : ℕ) → i ≤ length l → Led l i
-led l zero h = record { best = length l; is = leading-none has_started higher (strict Highest) (λ s. true) l }
-led l (suc i) h = go (led l i (omega arith))
-  where
-    go : Led l i → Led l (suc i)
-    go r = step (is_better Highest Any l i r.best) refl
-      where
-        next-is : i + 1 ≡ suc i
-        next-is = omega arith
-
-        step : (b : Bool) → is_better Highest Any l i r.best ≡ b → Led l (suc i)
-        step true e =
-            let t = better-true Highest Any l i r.best e in
-            record {
-              best = i;
-              is = subst (λ (j : ℕ). Leading has_started higher (strict Highest) (λ s. true) l j i) next-is
-                  (leading-next has_started higher (strict Highest) (λ s. true) l i r.best h t.0 t.1 r.is);
-            }
-        step false e =
-            record {
-              best = r.best;
-              is = subst (λ (j : ℕ). Leading has_started higher (strict Highest) (λ s. true) l j r.best) next-is
-                  (leading-stays has_started higher (strict Highest) (λ s. true) l i r.best h (better-false Highest Any l i r.best e)
-                  r.is);
-            }
-
 none-started : (l : List Verdict) → length l ≤ on_air l → (j : ℕ) → j < length l → stands has_started (λ s. true) (get_or l j none) ≡ false
-none-started l k j y = let r = led l (length l) (omega arith) in go r.best r.is
-    (leading-out has_started higher (strict Highest) (λ s. true) l r.best r.is)
+none-started l k j y = go (stands has_started (λ s. true) (get_or l j none)) refl
   where
-    go : (b : ℕ) → Leading has_started higher (strict Highest) (λ s. true) l (length l) b → b ≡ on_air l
-        → stands has_started (λ s. true) (get_or l j none) ≡ false
-    go b (inl n) e = n.1 j y
-    go b (inr m) e = absurd (omega (arith, m.among, e, k))
+    go : (b : Bool) → stands has_started (λ s. true) (get_or l j none) ≡ b → b ≡ false
+    go false e = refl
+    go true e =
+        absurd (omega (
+          arith,
+          counted-at has_started (λ s. true) l j y e,
+          some-none (λ s. true) (standing has_started l) (none_found has_started higher (strict Highest) (λ s. true) l k),
+        ))
 
 -- the started ones leave, each by what it was: by the AccessType of the one on air
 pub started-stage : (air cover : Ending) (p : Session → Bool) (l : List Verdict) (top : ℕ) → Top l top
@@ -241,14 +212,10 @@ started-stage air cover p l top h = go (ltb (on_air l) (length l)) refl
                 let s = there has_started started-shut (first has_started higher p l) l y in
                 absurd (clash (stands has_started (λ s. true) (get_or l i none)) s (none-started l k i y))
 
--- as code finds it: of n rows, the first that none is higher than is i
-module _ (n i : ℕ) (m : List ℕ) where
-  at-air : n ≡ length m / width → i ≡ first_in Highest Any (verdicts_in n m) → i ≡ on_air (all m)
-  at-air e f = f ∙ ap (λ (j : ℕ). on_air (verdicts_in j m)) e
+-- as code finds it
+module _ (m : List ℕ) {r : Option ℕ} (f : r ≡ place_in (all m) (on_air (all m))) where
+  pub top-found : {i : ℕ} {v : Verdict} → r ≡ Some i → v ≡ get_or (all m) i none → Top (all m) v.session.access
+  top-found g e k = ap (λ (w : Verdict). w.session.access) e ∙ ap (λ (j : ℕ). (session_of (all m) j).access) (found (all m) f g).0
 
-  pub top-found : (v : Verdict) → n ≡ length m / width → i ≡ first_in Highest Any (verdicts_in n m) → v ≡ get_or (verdicts_in n m) i none
-      → Top (all m) v.session.access
-  top-found v e f g k = ap (λ (s : Session). s.access) (loaded n i m v e g) ∙ ap (λ (j : ℕ). (session_of (all m) j).access) (at-air e f)
-
-  pub top-none : {r : ℕ} → n ≡ length m / width → i ≡ first_in Highest Any (verdicts_in n m) → n ≤ i → Top (all m) r
-  top-none e f h k = absurd (omega (arith, at-air e f, length-all m, e, h, k))
+  pub top-none : {a : ℕ} → r ≡ None → Top (all m) a
+  top-none g k = absurd (omega (arith, missing (all m) f g, k))

@@ -1,5 +1,5 @@
 -- What a piece of work on the lent words promises.
-use Rattle.std.specs.Prelude.{◌≡◌, Bool, cond, List, [], ◌∷◌, ℕ, ◌+◌, ◌/◌, ◌≤◌, ◌<◌, leb, length}
+use Rattle.std.specs.Prelude.{◌≡◌, Bool, cond, List, [], ◌∷◌, ℕ, ◌+◌, ◌≤◌, ◌<◌, leb, length}
 use Rattle.rules.specs.declared.Session.{Session}
 use Rattle.rules.specs.declared.Ending.{Ending}
 use Rattle.rules.specs.declared.Ending.TheVariants.{Complete, Failed, Response}
@@ -8,12 +8,8 @@ use Rattle.rules.specs.Records.{Record, output}
 use Rattle.rules.specs.Ends.{ended}
 use Rattle.recall_rules.specs.declared.Verdict.{Verdict}
 use Rattle.recall_rules.specs.Verdicts.{session_of, over}
-use Rattle.recall_rows.specs.Rows.{width, verdicts_in}
+pub use Rattle.recall_rows.specs.Rows.{all}
 use Rattle.recall_rules.specs.Work.{Turn, writes, and_then, dismissed, on_air, as_was, endings, started_ones, waiting_ones}
-
--- every row of the words is a verdict
-abbrev pub all : List ℕ → List Verdict
-all m = verdicts_in (length m / width) m
 
 -- an end that is a SpliceComplete
 abbrev pub Completing : Ending → Type 0

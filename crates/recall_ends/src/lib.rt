@@ -1,5 +1,6 @@
 // Ends on verdicts in words: followers, eviction, abort, close, those whose end has come.
 // Every row of the words is a verdict. Records go behind the last one in the output buffer.
+// Results are numbers, as the documents name them and the wire has them.
 #![tactic(auto)]
 
 ghost use Rattle.std.specs.Prelude.{◌≡◌, [], ◌∷◌, ◌+◌, ◌/◌, ◌≤◌, ◌<◌, length};
@@ -12,36 +13,29 @@ ghost use Rattle.recall_rows.specs.Scans.{session_test};
 ghost use Rattle.recall_ends.specs.Does.{Completing, Tells, Room, Does, all, one_over, chain_over, Top, by_access, started_end};
 ghost use Rattle.recall_ends.specs.Does.{waiting_end};
 
-use recall_rows::{Order, Stand, Test, WIDTH};
+use recall_rows::{Order, Stand, Test};
 use recall_rules::{Phase, Verdict};
 use rules::{Ending, Ninths, Session, Ticks};
 
-// How many rows the words have.
-pub fn rows_in(m: &[u64]) -> usize
-    ensures { result ≡ length m.now / width }
-{
-    m.len() / WIDTH
-}
-
 // A SpliceComplete that is an end: flag 1 with the time on air, or flag 0 and 109 of a start that failed. A PlayedDuration has four
 // bytes, so what they do not show is left out first.
+// In the first engine too: the second engine has rules of its own (02, CR 12).
+// `out` and `len` stay two, here and below, as in ends: a struct behind a reference would have to say again how long its
+// slice is.
 fn write_complete(how: Ending, x: Session, out: &mut [u8], len: usize) -> usize
     requires completing { Completing how }
     requires x_in_bounds { len + length (output (ended how x ∷ [])) ≤ length out.old }
     ensures { Tells out.old len (ended how x ∷ []) result out.new }
 {
-    let mut result = 109;
-    let mut flag = 0;
-    let mut played = Ticks(0);
-    if let Ending::Complete(n) = how {
-        result = n;
-        flag = 1;
-        played = units::to_ticks(Ninths(x.played.0 % 429496729600));
-    }
+    let (result, flag, played) = match how {
+        Ending::Complete(n) => (n, 1, units::to_ticks(Ninths(x.played.0 % 429496729600))),
+        _ => (109, 0, Ticks(0)),
+    };
     len + writing::splice_complete(&mut out[len..], x.conn, result, x.id, flag, played)
 }
 
 // The end of x, behind the last record: the one place where an end is written.
+// In the first engine too: the second engine has rules of its own (02, CR 12).
 fn write_end(how: Ending, x: Session, out: &mut [u8], len: usize) -> usize
     requires { len + length (output (ended how x ∷ [])) ≤ length out.old }
     ensures { Tells out.old len (ended how x ∷ []) result out.new }
@@ -53,34 +47,15 @@ fn write_end(how: Ending, x: Session, out: &mut [u8], len: usize) -> usize
 }
 
 // The result of an end's record.
+// In the first engine too: the second engine has rules of its own (02, CR 12).
+// No From: Ending is of rules.
 fn result_of(how: Ending, x: Session) -> u16
     ensures { result ≡ result_of (ended how x) }
 {
     match how {
-        Ending::Complete(result) => result,
+        Ending::Complete(result) | Ending::Response(result) => result,
         Ending::Failed => 109,
-        Ending::Response(result) => result,
     }
-}
-
-// The number of the session of row i.
-fn id_at(m: &[u64], i: usize) -> u64
-    requires { i < length m.now / width }
-    ensures { result ≡ (session_of (all m.now) i).id }
-{
-    let n = rows_in(m);
-    let v = recall_rows::load(m, n, i);
-    v.session.id
-}
-
-// The connection of the session of row i.
-fn conn_at(m: &[u64], i: usize) -> u64
-    requires { i < length m.now / width }
-    ensures { result ≡ (session_of (all m.now) i).conn }
-{
-    let n = rows_in(m);
-    let v = recall_rows::load(m, n, i);
-    v.session.conn
 }
 
 // The session of row i ends so, the next of all ends.
@@ -89,13 +64,10 @@ fn end_one(m: &mut [u64], i: usize, how: Ending, out: &mut [u8], len: usize) -> 
     requires room { Room (one_over how i) len m.old out.old }
     ensures { Does (one_over how i) len m.old out.old result m.new out.new }
 {
-    let n = rows_in(&*m);
-    let v = recall_rows::load(&*m, n, i);
-    let session = v.session;
-    let nth = recall_rows::count(&*m, n, Stand::Ended, Test::Any);
-    let result = result_of(how, session);
-    let phase = Phase::Ended(nth as u64, result as u64);
-    recall_rows::store(&mut *m, n, i, Verdict { phase, session });
+    let session = recall_rows::load(&*m, i).session;
+    let nth = recall_rows::count(&*m, Stand::Ended, Test::Any);
+    let phase = Phase::Ended(nth as u64, result_of(how, session) as u64);
+    recall_rows::store(&mut *m, i, Verdict { phase, session });
     write_end(how, session, &mut *out, len)
 }
 
@@ -104,28 +76,22 @@ fn dismiss(m: &mut [u64], res: u16, conn: u64, id: u64, out: &mut [u8], len: usi
     requires { Room (dismissed res conn id) len m.old out.old }
     ensures { Does (dismissed res conn id) len m.old out.old result m.new out.new }
 {
-    let n = rows_in(&*m);
-    let i = recall_rows::find(&*m, n, Stand::Waiting, Test::Follows(conn, id));
-    if i < n {
-        let next = id_at(&*m, i);
-        let to = end_one(&mut *m, i, Ending::Response(res), &mut *out, len);
-        dismiss(m, res, conn, next, out, to)
-    } else {
-        len
-    }
+    let Some(i) = recall_rows::find(&*m, Stand::Waiting, Test::Follows(conn, id)) else {
+        return len;
+    };
+    let next = recall_rows::load(&*m, i).session.id;
+    let to = end_one(&mut *m, i, Ending::Response(res), &mut *out, len);
+    dismiss(m, res, conn, next, out, to)
 }
 
 // The AccessType of the one on air, or 0 with none.
 fn top_access(m: &[u64]) -> u64
     ensures { Top (all m.now) result }
 {
-    let n = rows_in(m);
-    let i = recall_rows::first_of(m, n, Order::Highest, Test::Any);
-    if i < n {
-        let v = recall_rows::load(m, n, i);
-        return v.session.access;
+    match recall_rows::first_of(m, Order::Highest, Test::Any) {
+        Some(i) => recall_rows::load(m, i).session.access,
+        None => 0,
     }
-    0
 }
 
 // How the started session of row i ends: one on air has the AccessType `top`, any other is covered.
@@ -133,12 +99,8 @@ fn as_was(m: &[u64], i: usize, top: u64, air: Ending, cover: Ending) -> Ending
     requires { i < length m.now / width }
     ensures { result ≡ by_access top air cover (session_of (all m.now) i) }
 {
-    let n = rows_in(m);
-    let v = recall_rows::load(m, n, i);
-    if top <= v.session.access {
-        return air;
-    }
-    cover
+    let v = recall_rows::load(m, i);
+    if top <= v.session.access { air } else { cover }
 }
 
 // Those of the started that pass the test end, from the highest AccessType down, each by what it was.
@@ -154,14 +116,11 @@ fn end_started(
     ensures { Does (started_end air cover (session_test test))
         len m.old out.old result m.new out.new }
 {
-    let n = rows_in(&*m);
     let top = top_access(&*m);
     let mut to = len;
-    let mut i = recall_rows::first_of(&*m, n, Order::Highest, test);
-    while i < n {
+    while let Some(i) = recall_rows::first_of(&*m, Order::Highest, test) {
         let how = as_was(&*m, i, top, air, cover);
         to = end_one(&mut *m, i, how, &mut *out, to);
-        i = recall_rows::first_of(&*m, n, Order::Highest, test);
     }
     to
 }
@@ -172,12 +131,9 @@ fn end_waiting(m: &mut [u64], test: Test, how: Ending, out: &mut [u8], len: usiz
     ensures { Does (waiting_end how (session_test test))
         len m.old out.old result m.new out.new }
 {
-    let n = rows_in(&*m);
     let mut to = len;
-    let mut i = recall_rows::first_of(&*m, n, Order::Earliest, test);
-    while i < n {
+    while let Some(i) = recall_rows::first_of(&*m, Order::Earliest, test) {
         to = end_one(&mut *m, i, how, &mut *out, to);
-        i = recall_rows::first_of(&*m, n, Order::Earliest, test);
     }
     to
 }
@@ -234,10 +190,9 @@ pub fn end_chain(
     requires room { Room (chain_over how res i) len m.old out.old }
     ensures { Does (chain_over how res i) len m.old out.old result m.new out.new }
 {
-    let conn = conn_at(&*m, i);
-    let id = id_at(&*m, i);
+    let x = recall_rows::load(&*m, i).session;
     let to = end_one(&mut *m, i, how, &mut *out, len);
-    dismiss(&mut *m, res, conn, id, &mut *out, to)
+    dismiss(&mut *m, res, x.conn, x.id, &mut *out, to)
 }
 
 // The one that waits for this start, if any, is evicted, and those that follow it.
@@ -245,10 +200,8 @@ pub fn evict(m: &mut [u64], t: u64, out: &mut [u8], len: usize) -> usize
     requires { Room (evicted t) len m.old out.old }
     ensures { Does (evicted t) len m.old out.old result m.new out.new }
 {
-    let n = rows_in(&*m);
-    let i = recall_rows::find(&*m, n, Stand::Waiting, Test::StartsAt(t));
-    if i < n {
-        return end_chain(&mut *m, i, Ending::Response(109), 109, &mut *out, len);
+    match recall_rows::find(&*m, Stand::Waiting, Test::StartsAt(t)) {
+        Some(i) => end_chain(&mut *m, i, Ending::Response(109), 109, &mut *out, len),
+        None => len,
     }
-    len
 }

@@ -9,7 +9,7 @@ use lib.Dec.{ltb}
 use lib.ListN.{length}
 use borrow.Author.Tests.{ltb-false, le-ltb}
 use Rattle.rules.specs.declared.Ninths.{Ninths}
-use Rattle.rules.specs.declared.When.TheVariants.{At, Never}
+use Rattle.std.specs.declared.option.Option.TheVariants.{Some, None}
 use Rattle.rules.specs.declared.Session.{Session}
 use Rattle.rules.specs.Lists.{count}
 use Rattle.rules.specs.State as state
@@ -36,25 +36,25 @@ use Rattle.recall_rules.proofs.Instants.{elapse-same, due-same, instant-same, fi
 use Rattle.recall_ends.specs.Does.{all, Turns, Room, Does}
 use Rattle.recall_ends.proofs.Laws.{length-all, tells_none}
 use Rattle.recall_instants.specs.Moments.{Lasting, Keeps}
-use Rattle.recall_instants.proofs.Leads.{is-there}
+use Rattle.recall_rows.proofs.Best.{is-there}
 use Rattle.recall_instants.proofs.Starts.{first-room, next-room, both-done}
 
 -- ## A tick, an instant at a time
 
 module _ (now until : ℕ) (l : List Verdict) where
-  abbrev rests : Turn
+  abbrev pub rests : Turn
   rests = quiet (elapse (until - now) l)
 
   pub run_none : run 0 now until l ≡ rests
   unfolding run
   run_none = refl
 
-  pub run-stop : (n : ℕ) → not_after until (due l) ≡ Never → run n now until l ≡ rests
+  pub run-stop : (n : ℕ) → not_after until (due l) ≡ None → run n now until l ≡ rests
   unfolding run
   run-stop zero e = refl
   run-stop (suc n) e = rw e
 
-  pub run_more : (n : ℕ) (t : Ninths) → not_after until (due l) ≡ At t
+  pub run_more : (n : ℕ) (t : Ninths) → not_after until (due l) ≡ Some t
       → run (suc n) now until l ≡ and_then (instant t.0 (elapse (t.0 - now) l)) (run n t.0 until)
   unfolding run
   run_more n t e = rw e
@@ -92,8 +92,8 @@ module _ {at : ℕ} {l : List Verdict} (k : Keeps at l) where
           go false e = ltb-false at s.played.0 e
 
   -- the next instant is t
-  module _ (until : ℕ) (t : Ninths) (d : not_after until (due l) ≡ At t) where
-    same : not_after until (state.due k.queue) ≡ At t
+  module _ (until : ℕ) (t : Ninths) (d : not_after until (due l) ≡ Some t) where
+    same : not_after until (state.due k.queue) ≡ Some t
     same = ap (not_after until) (sym (due-same l k.queue k.shows)) ∙ d
 
     pub next-time : t.0 ≤ until
@@ -142,7 +142,7 @@ module _ {until : ℕ} {w : Turn} {e m : List ℕ} {at n : ℕ} {o : List ℕ} {
   running-last {k} is f = v.rest (subst (λ (t : Turn). Turns o n t k n o) (sym is) (record { holds = f; tells = tells_none }))
 
   -- the next instant is t, and so much time has passed in m'
-  module _ (left' : ℕ) (less : left ≡ suc left') (t : Ninths) (d : not_after until (due (all m)) ≡ At t) (m' : List ℕ)
+  module _ (left' : ℕ) (less : left ≡ suc left') (t : Ninths) (d : not_after until (due (all m)) ≡ Some t) (m' : List ℕ)
       (f : all m' ≡ elapse (t.0 - at) (all m)) where
     more : run left at until (all m) ≡ and_then (instant t.0 (all m')) (run left' t.0 until)
     more =

@@ -1,9 +1,8 @@
--- Pieces of work one after another, with the room for all of them; and the pieces that a start, a failed start and an instant are made of.
--- Rests on recall_ends' laws of one piece behind another.
-use mathlib.Core.Path.{◌≡◌, refl, sym, ap, subst, ◌∙◌}
+-- The pieces that a start, a failed start and an instant are made of. Assumes nothing.
+use mathlib.Core.Path.{◌≡◌, refl, sym, ap, ◌∙◌}
 use mathlib.Core.Bool.{Bool, true, false, cond, ◌&&◌}
 use mathlib.Core.List.{List, [], ◌∷◌}
-use Prim.Native.Nat.{ℕ, ◌+◌, ◌≤◌, ◌<◌}
+use Prim.Native.Nat.{ℕ, ◌≤◌, ◌<◌}
 use native.Mathlib.Omega.{arith}
 use lib.Dec.{ltb}
 use lib.ListN.{length, set}
@@ -19,36 +18,9 @@ use Rattle.recall_rules.specs.declared.Phase.TheVariants.{Out}
 use Rattle.recall_rules.specs.declared.Verdict.{Verdict}
 use Rattle.recall_rules.specs.Verdicts.{is_waiting, verdict, which, session_of}
 use Rattle.recall_rules.specs.Work.{Turn, quiet, and_then, on_air, may_start, ousted, started, failed, launched, start_at, end_at, instant}
-use Rattle.recall_ends.specs.Does.{all, Turns, Room, chain_over}
-use Rattle.recall_ends.proofs.Laws.{turns_then, length-then}
+use Rattle.recall_ends.specs.Does.{chain_over}
+pub use Rattle.recall_ends.proofs.Laws.{first-room, next-room, both-done, as_room, as-done}
 use Rattle.recall_instants.specs.Moments.{begins}
-
--- ## One piece of work, and another from where it ended
-
-module _ {w : Turn} (t : Turn) (f : List Verdict → Turn) (is : w ≡ and_then t f) (e : List ℕ) (len : ℕ)
-    (room : len + length (output w.written) ≤ length e) where
-  total : len + (length (output t.written) + length (output (f t.verdicts).written)) ≤ length e
-  total = omega (arith, room, ap (λ (u : Turn). length (output u.written)) is, length-then t f)
-
-  pub first-room : len + length (output t.written) ≤ length e
-  first-room = omega (arith, total)
-
-  module _ {k o : List ℕ} {to : ℕ} (d : Turns e len t k to o) where
-    pub next-room : length o ≡ length e → Room f to k o
-    next-room z = subst (λ (v : List Verdict). to + length (output (f v).written) ≤ length o) (sym d.holds)
-        (omega (arith, total, z, d.tells.count))
-
-    pub both-done : {k' o' : List ℕ} {to' : ℕ} → Turns o to (f (all k)) k' to' o' → Turns e len w k' to' o'
-    both-done {k'} {o'} {to'} g = subst (λ (u : Turn). Turns e len u k' to' o') (sym is) (turns_then t f first-room d g)
-
--- ## The same work
-
-module _ {v w : Turn} (is : v ≡ w) where
-  pub as_room : (e : List ℕ) (len : ℕ) → len + length (output v.written) ≤ length e → len + length (output w.written) ≤ length e
-  as_room e len h = omega (arith, h, ap (λ (u : Turn). length (output u.written)) is)
-
-  pub as-done : {e k o : List ℕ} {len to : ℕ} → Turns e len w k to o → Turns e len v k to o
-  as-done {e} {k} {o} {len} {to} d = subst (λ (u : Turn). Turns e len u k to o) (sym is) d
 
 -- ## Starts
 

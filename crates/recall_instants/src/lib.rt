@@ -1,26 +1,27 @@
 // The tick on verdicts in words: who is on air, the next instant, starts, ends.
-// Each is found by a scan.
+// Each is found by a scan. Results are numbers, as the documents name them and the wire has them.
 #![tactic(auto)]
 
-ghost use Rattle.std.specs.Prelude.{◌≡◌, ◌+◌, ◌/◌, ◌≤◌, ◌<◌, length};
+ghost use Rattle.std.specs.Prelude.{◌≡◌, ◌+◌, ◌/◌, ◌≤◌, ◌<◌, length, IfSome};
 ghost use Rattle.rules.specs.State.{earliest, not_after};
 ghost use Rattle.rules.specs.Units.{horizon};
 ghost use Rattle.recall_rules.specs.Verdicts.{is_waiting, has_started, standing, session_of};
 ghost use Rattle.recall_rows.specs.Rows.{width};
+ghost use Rattle.recall_rows.specs.Scans.{place_in};
 ghost use Rattle.recall_rules.specs.Work.{on_air, elapse, due, may_start, ousted, started, launched, start_at, instant, run_all};
 ghost use Rattle.recall_ends.specs.Does.{all, Room, Does};
 ghost use Rattle.recall_instants.specs.Moments.{begins, Lasting, Keeps};
 
 use recall_rows::{Order, Stand, Test};
 use recall_rules::{Phase, Verdict};
-use rules::{Ending, Ninths, Session, Ticks, When};
+use rules::{Ending, Ninths, Session, Ticks};
 
-// The row of the one on air, or how many rows there are.
-pub fn on_air(m: &[u64]) -> usize
-    ensures { result ≡ on_air (all m.now) }
+// The row of the one on air, if any is.
+pub fn on_air(m: &[u64]) -> Option<usize>
+    ensures on_air { result ≡ place_in (all m.now) (on_air (all m.now)) }
+    ensures in_bounds { IfSome result (λ i. i < length m.now / width) }
 {
-    let n = recall_ends::rows_in(m);
-    recall_rows::first_of(m, n, Order::Highest, Test::Any)
+    recall_rows::first_of(m, Order::Highest, Test::Any)
 }
 
 // The one on air has played d ninths more: the one place where time is added.
@@ -28,16 +29,11 @@ fn elapse(m: &mut [u64], d: u64)
     requires { Lasting d (all m.old) }
     ensures { all m.new ≡ elapse d (all m.old) }
 {
-    let n = recall_ends::rows_in(&*m);
-    let i = on_air(&*m);
-    if i < n {
-        let v = recall_rows::load(&*m, n, i);
-        let mut session = v.session;
-        let played = Ninths(session.played.0 + d);
-        session.played = played;
+    if let Some(i) = on_air(&*m) {
+        let mut session = recall_rows::load(&*m, i).session;
+        session.played.0 += d;
         recall_rows::store(
             &mut *m,
-            n,
             i,
             Verdict {
                 phase: Phase::Started,
@@ -47,38 +43,25 @@ fn elapse(m: &mut [u64], d: u64)
     }
 }
 
-// The first end of those that have started.
-fn next_end(m: &[u64]) -> When
+// The first end of those that have started. It and `next_start` are not one function: that would take the order and a closure for the time,
+// and its contract a ghost function, for two lines.
+fn next_end(m: &[u64]) -> Option<Ninths>
     ensures { result ≡ earliest (λ s. s.end) (standing has_started (all m.now)) }
 {
-    let n = recall_ends::rows_in(m);
-    let i = recall_rows::first_of(m, n, Order::Ending, Test::Any);
-    if i < n {
-        let v = recall_rows::load(m, n, i);
-        let session = v.session;
-        let end = session.end;
-        return When::At(end);
-    }
-    When::Never
+    let i = recall_rows::first_of(m, Order::Ending, Test::Any)?;
+    Some(recall_rows::load(m, i).session.end)
 }
 
 // The first start of those that wait.
-fn next_start(m: &[u64]) -> When
+fn next_start(m: &[u64]) -> Option<Ninths>
     ensures { result ≡ earliest (λ s. s.start) (standing is_waiting (all m.now)) }
 {
-    let n = recall_ends::rows_in(m);
-    let i = recall_rows::first_of(m, n, Order::Earliest, Test::Any);
-    if i < n {
-        let v = recall_rows::load(m, n, i);
-        let session = v.session;
-        let start = session.start;
-        return When::At(start);
-    }
-    When::Never
+    let i = recall_rows::first_of(m, Order::Earliest, Test::Any)?;
+    Some(recall_rows::load(m, i).session.start)
 }
 
 // The next start or end up to a time, if there is one.
-fn next_due(m: &[u64], until: Ninths) -> When
+fn next_due(m: &[u64], until: Ninths) -> Option<Ninths>
     ensures { result ≡ not_after until.0 (due (all m.now)) }
 {
     let a = next_end(m);
@@ -90,34 +73,20 @@ fn next_due(m: &[u64], until: Ninths) -> When
 fn may_start(m: &[u64], x: Session) -> bool
     ensures { result ≡ may_start x (all m.now) }
 {
-    let n = recall_ends::rows_in(m);
-    let i = on_air(m);
-    if i < n {
-        let v = recall_rows::load(m, n, i);
-        return x.overrides == 1 && v.session.access <= x.access;
+    match on_air(m) {
+        Some(i) => x.overrides == 1 && recall_rows::load(m, i).session.access <= x.access,
+        None => true,
     }
-    true
-}
-
-// The session of row i.
-fn session_at(m: &[u64], i: usize) -> Session
-    requires { i < length m.now / width }
-    ensures { result ≡ session_of (all m.now) i }
-{
-    let n = recall_ends::rows_in(m);
-    let v = recall_rows::load(m, n, i);
-    v.session
 }
 
 // An equal one on air ends at once, before the start of x, and then the waiting ones that follow it.
+// `out` and `len` stay two, here and below, as in ends.
 fn oust(m: &mut [u64], x: Session, out: &mut [u8], len: usize) -> usize
     requires { Room (ousted x) len m.old out.old }
     ensures { Does (ousted x) len m.old out.old result m.new out.new }
 {
-    let n = recall_ends::rows_in(&*m);
-    let i = on_air(&*m);
-    if i < n {
-        let air = session_at(&*m, i);
+    if let Some(i) = on_air(&*m) {
+        let air = recall_rows::load(&*m, i).session;
         if air.access == x.access {
             return recall_ends::end_chain(&mut *m, i, Ending::Complete(125), 125, &mut *out, len);
         }
@@ -131,10 +100,8 @@ fn begin(m: &mut [u64], i: usize, x: Session, out: &mut [u8], len: usize) -> usi
     requires room { Room (begins i x) len m.old out.old }
     ensures { Does (begins i x) len m.old out.old result m.new out.new }
 {
-    let n = recall_ends::rows_in(&*m);
     recall_rows::store(
         &mut *m,
-        n,
         i,
         Verdict {
             phase: Phase::Started,
@@ -150,11 +117,9 @@ fn start(m: &mut [u64], i: usize, out: &mut [u8], len: usize) -> usize
     requires room { Room (started i) len m.old out.old }
     ensures { Does (started i) len m.old out.old result m.new out.new }
 {
-    let n = recall_ends::rows_in(&*m);
-    let x = session_at(&*m, i);
+    let x = recall_rows::load(&*m, i).session;
     recall_rows::store(
         &mut *m,
-        n,
         i,
         Verdict {
             phase: Phase::Out,
@@ -171,7 +136,7 @@ fn launch(m: &mut [u64], i: usize, out: &mut [u8], len: usize) -> usize
     requires room { Room (launched i) len m.old out.old }
     ensures { Does (launched i) len m.old out.old result m.new out.new }
 {
-    let x = session_at(&*m, i);
+    let x = recall_rows::load(&*m, i).session;
     if may_start(&*m, x) {
         start(&mut *m, i, &mut *out, len)
     } else {
@@ -184,12 +149,9 @@ fn start_at(m: &mut [u64], t: Ninths, out: &mut [u8], len: usize) -> usize
     requires { Room (start_at t.0) len m.old out.old }
     ensures { Does (start_at t.0) len m.old out.old result m.new out.new }
 {
-    let n = recall_ends::rows_in(&*m);
-    let i = recall_rows::find(&*m, n, Stand::Waiting, Test::StartsAt(t.0));
-    if i < n {
-        launch(&mut *m, i, &mut *out, len)
-    } else {
-        len
+    match recall_rows::find(&*m, Stand::Waiting, Test::StartsAt(t.0)) {
+        Some(i) => launch(&mut *m, i, &mut *out, len),
+        None => len,
     }
 }
 
@@ -209,20 +171,15 @@ pub fn run(m: &mut [u64], clock: Ninths, until: Ninths, out: &mut [u8]) -> usize
     requires room { Room (run_all clock.0 until.0) 0 m.old out.old }
     ensures { Does (run_all clock.0 until.0) 0 m.old out.old result m.new out.new }
 {
-    let n = recall_ends::rows_in(&*m);
     let mut t = clock;
     let mut len = 0;
-    let mut left = 2 * n;
-    while left > 0 {
-        let due = next_due(&*m, until);
-        let When::At(next) = due else {
-            elapse(&mut *m, until.0 - t.0);
-            return len;
+    for _ in 0..2 * recall_rows::rows_in(&*m) {
+        let Some(next) = next_due(&*m, until) else {
+            break;
         };
         elapse(&mut *m, next.0 - t.0);
         len = at_instant(&mut *m, next, &mut *out, len);
         t = next;
-        left -= 1;
     }
     elapse(&mut *m, until.0 - t.0);
     len

@@ -3,6 +3,7 @@
 use mathlib.Core.Path.{◌≡◌, refl, sym, subst, ap, ◌∙◌}
 use mathlib.Core.Bool.{true, false}
 use mathlib.Core.List.{List, ◌++◌}
+use Rattle.std.specs.Prelude.{Some}
 use Prim.Native.Nat.{ℕ, ◌+◌, ◌≤◌}
 use native.Mathlib.Omega.{arith}
 use lib.Dec.{eqb, ltb}
@@ -17,6 +18,8 @@ use Rattle.rules.specs.Card.{next_message}
 use Rattle.rules.specs.Card.{next_tick}
 use Rattle.rules.proofs.Tests.{by}
 use Rattle.rules.proofs.Bytes.{length-bytes}
+use Rattle.recall_log.specs.declared.Record.{Record}
+use Rattle.recall_log.specs.declared.Record.TheVariants.{Open, Close, Message, Tick}
 use Rattle.recall_log.specs.Kept.{marked, record_of, call_of, span_of}
 
 -- ## Parts of the first bytes
@@ -60,8 +63,10 @@ pub record First (l : List ℕ) (k : Call) (m : List ℕ) : Type 0 where
   pub there : size ≤ length l
   pub rest : m ≡ drop size l
   pub marks : length (marked k) ≡ size
-  pub span : span_of (record_of (calls k m)) ≡ size
-  pub made : call_of (record_of (calls k m)) l ≡ k
+  pub kind : Record
+  pub kind_is : record_of (calls k m) ≡ Some kind
+  pub span : span_of kind ≡ size
+  pub made : call_of kind l ≡ k
   pub again : (y : List ℕ) → next (take size l ++ y) ≡ calls k y
 
 abbrev pub Begins : List ℕ → Next → Type 0
@@ -82,6 +87,8 @@ module _ (l : List ℕ) where
         there = h;
         rest = refl;
         marks = refl;
+        kind = Open (conn_in l);
+        kind_is = refl;
         span = refl;
         made = refl;
         again = λ y. rw (
@@ -103,6 +110,8 @@ module _ (l : List ℕ) where
         there = h;
         rest = refl;
         marks = refl;
+        kind = Close (conn_in l);
+        kind_is = refl;
         span = refl;
         made = refl;
         again = λ y. rw (
@@ -133,6 +142,8 @@ module _ (l : List ℕ) where
           two = omega arith;
           there = h;
           rest = refl;
+          kind = Message (conn_in l) (message_size (part 0 (8 + message_size (message_from l)) (message_from l)));
+          kind_is = refl;
           span = ap message_end (own-size h);
           made = ap (λ x. messages (conn_in l) (part mark_end (8 + x) l) card_loans) (own-size h);
           marks = omega (arith, length-take-le (8 + message_size (message_from l)) (message_from l) (omega (arith, length-drop 2 l)));
@@ -163,6 +174,8 @@ module _ (l : List ℕ) where
           two = omega arith;
           there = h;
           rest = refl;
+          kind = Tick (seconds_in l) (micros_in l);
+          kind_is = refl;
           span = refl;
           made = refl;
           marks = omega (

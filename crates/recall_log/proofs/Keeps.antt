@@ -11,9 +11,9 @@ use lib.Seq.{length-take-le}
 use borrow.Author.Tests.{ltb-false, le-ltb}
 use Rattle.rules.specs.declared.Refusal.{Refusal}
 use Rattle.rules.specs.declared.Refusal.TheVariants.{Oversize, Short}
-use Rattle.rules.specs.declared.Framing.TheVariants.{Framed, Unframed}
+use Rattle.std.specs.Prelude.{Ok, Err}
 use Rattle.rules.specs.declared.Message.{Message}
-use Rattle.rules.specs.declared.Message.TheVariants.{Init, Alive, Splice, Abort, Config, Extended, Unreadable}
+use Rattle.rules.specs.declared.Message.TheVariants.{Init, Alive, Splice, Abort, Config, Extended}
 use Rattle.rules.specs.Bytes.{data_of, value, part, message_id, message_size, oversize}
 use Rattle.rules.specs.Units.{bad_micros}
 use Rattle.rules.specs.Reading.{init_request, is_read, read}
@@ -22,7 +22,7 @@ use Rattle.rules.specs.Records.{General}
 use Rattle.rules.specs.Answers.{says, answer_read, answer}
 use Rattle.rules.specs.Card.{card_loans}
 use Rattle.rules.specs.HouseNumbers.{Loans, Called, refuse, no_connection, no_room, not_open, long_section}
-use Rattle.rules.specs.Calls.{section_of, framing, handled}
+use Rattle.rules.specs.Calls.{section_of, headed, framing, handled}
 use Rattle.rules.specs.Calls.{open_call, close_call, message_call, move_call, tick_call, Call, opens, closes, messages, ticks, moves, cues}
 use Rattle.rules.specs.Calls.{call}
 use Rattle.rules.specs.Follows.Sound.{Wired}
@@ -30,6 +30,7 @@ use Rattle.rules.proofs.Bytes.{part-byte}
 use Rattle.recall_log.specs.Kept.{Its, kept_form, Good}
 use Rattle.recall_log.proofs.Firsts.{part-take}
 use Rattle.recall_log.proofs.Appends.{Keepable}
+use Rattle.std.specs.Prelude.{None, Option, Some}
 
 -- ## One call
 
@@ -59,16 +60,16 @@ unfolding answer answer_read
 any-section c id d m n s =
     go (eqb id 0x0000) (not (is_initialised (link_of c s)) && not (eqb id init_request)) (eqb id 0x000D) (not (is_read id)) (read id d)
   where
-    one : (r : Message) → (answer_read c r d m s).splicer ≡ (answer_read c r d n s).splicer
-    one (Init revision) = refl
-    one Alive = refl
-    one (Splice r) = refl
-    one (Abort x) = refl
-    one Config = refl
-    one (Extended x) = refl
-    one Unreadable = refl
+    one : (r : Option Message) → (answer_read c r d m s).splicer ≡ (answer_read c r d n s).splicer
+    one (Some (Init revision)) = refl
+    one (Some Alive) = refl
+    one (Some (Splice r)) = refl
+    one (Some (Abort x)) = refl
+    one (Some Config) = refl
+    one (Some (Extended x)) = refl
+    one None = refl
 
-    go : (a b e f : Bool) (r : Message)
+    go : (a b e f : Bool) (r : Option Message)
         → (cond a (says [] s) (cond b (says (General c 103 ∷ []) s) (cond e (says [] s)
         (cond f (says (General c 120 ∷ []) s) (answer_read c r d m s))))).splicer
         ≡ (cond a (says [] s) (cond b (says (General c 103 ∷ []) s) (cond e (says [] s)
@@ -83,15 +84,15 @@ any-section c id d m n s =
 pub record Framing (l : List ℕ) : Type 0 where
   pub whole : 8 + message_size l ≤ length l
   pub fits : oversize l ≡ false
-  pub framed : framing l ≡ Framed (message_id l) (message_size l)
+  pub framed : framing l ≡ Ok (headed (message_id l) (message_size l))
 
 framing-of : (c : ℕ) (l : List ℕ) (loans : Loans) (s : Splicer) → Good (handled c (framing l) l loans s).answer → Framing l
 unfolding framing handled
 framing-of c l loans s g = go (ltb (length l) 8) (oversize l) (ltb (length l) (8 + message_size l)) refl refl refl g
   where
     go : (a b d : Bool) → ltb (length l) 8 ≡ a → oversize l ≡ b → ltb (length l) (8 + message_size l) ≡ d
-        → Good (handled c (cond a (Unframed Short) (cond b (Unframed Oversize)
-        (cond d (Unframed Short) (Framed (message_id l) (message_size l))))) l loans s).answer
+        → Good (handled c (cond a (Err Short) (cond b (Err Oversize)
+        (cond d (Err Short) (Ok (headed (message_id l) (message_size l)))))) l loans s).answer
         → Framing l
     go true b d e f h g = absurd g
     go false true d e f h g = absurd g
@@ -118,7 +119,7 @@ module _ (l : List ℕ) (f : Framing l) where
   same_size : message_size front ≡ message_size l
   same_size = ap value (front-part 2 2 (omega arith))
 
-  front-framed : framing front ≡ Framed (message_id l) (message_size l)
+  front-framed : framing front ≡ Ok (headed (message_id l) (message_size l))
   unfolding framing
   front-framed = rw (long, same_size, same_id, f.fits, le-ltb size 8 (omega arith), le-ltb size size (omega arith))
 

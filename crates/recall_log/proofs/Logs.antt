@@ -24,7 +24,7 @@ use Rattle.rules.proofs.All.{all_drop}
 use Rattle.rules.proofs.Bytes.{part-byte, field_below}
 use Rattle.recall_log.specs.Log.{kept_calls, taken, free, log_length, most_calls, longest_record, other_length, full}
 use Rattle.recall_log.specs.Kept.{Its, marked, recorded, appended, cleared, log_after, Neat, space_in, Behind}
-use Rattle.recall_log.specs.declared.Space.TheVariants.{From, NoSpace}
+use Rattle.std.specs.Prelude.{None, Some}
 use Rattle.recall_log.proofs.Firsts.{first}
 use Rattle.recall_log.proofs.Walks.{calls-none, taken_none, calls-more, taken_more, through, within}
 use Rattle.recall_log.proofs.Appends.{Keepable, marked-length, left, appended-is, appended-calls, appended-taken, appended-length}
@@ -84,11 +84,11 @@ unfolding full
 full-space l e h = rw (same_length l e, lt-leb most_calls (length (kept_calls l)) h)
 
 -- where the next record goes
-pub place_none : (l : List ℕ) → full l ≡ true → space_in l ≡ NoSpace
+pub place_none : (l : List ℕ) → full l ≡ true → space_in l ≡ None
 unfolding space_in
 place_none l e = rw e
 
-pub place-from : (l : List ℕ) → full l ≡ false → space_in l ≡ From (taken l)
+pub place-from : (l : List ℕ) → full l ≡ false → space_in l ≡ Some (taken l)
 unfolding space_in
 place-from l e = rw e
 

@@ -1,18 +1,18 @@
--- What the stores of a record leave is the appended log, and what clearing leaves is the cleared one.
+-- What the stores of a record leave is the appended log.
 -- Rests on rules' laws of what is written directly behind what was written.
 use mathlib.Core.Path.{◌≡◌, refl, sym, ap, ◌∙◌}
-use mathlib.Core.List.{List, [], ◌∷◌, ◌++◌, append-nil}
+use mathlib.Core.List.{List, [], ◌∷◌, ◌++◌}
 use Prim.Native.Nat.{ℕ, ◌+◌, ◌≤◌, ◌<◌}
 use native.Mathlib.Omega.{arith}
 use lib.Dec.{ltb}
-use lib.ListN.{length, set, length-set, replicate, length-replicate, replicate-append-replicate, drop_of_length-le}
+use lib.ListN.{length, set, length-set}
 use borrow.Author.Tests.{lt-ltb, le-ltb}
 use Rattle.rules.specs.Lists.{put}
 use Rattle.rules.specs.Bytes.{written}
 use Rattle.rules.specs.Calls.{Call}
 use Rattle.rules.proofs.Written.{written_none, length-written, written-set, written-more}
-use Rattle.recall_log.specs.Log.{longest_record}
-use Rattle.recall_log.specs.Kept.{marked, zero_behind, appended, cleared, Behind}
+use Rattle.recall_log.specs.Log.{taken, longest_record}
+use Rattle.recall_log.specs.Kept.{marked, zero_behind, appended, Behind}
 
 pub two-set : (e : List ℕ) (at a b : ℕ) → at + 2 ≤ length e → set (set e at a) (at + 1) b ≡ written e at (a ∷ b ∷ [])
 two-set e at a b h =
@@ -40,19 +40,19 @@ record-put k e o p at end b h f g q =
     ∙ ap (λ x. written e at (m ++ zero_behind x e)) f
     ∙ ap (λ x. written e x (m ++ zero_behind (x + length m) e)) b.place
 
--- a turn of clearing
-pub cleared_more : (e o : List ℕ) (i : ℕ) → i < length e → o ≡ written e 0 (replicate i 0) → set o i 0 ≡ written e 0 (replicate (i + 1) 0)
-cleared_more e o i h w =
-    let n : length (replicate {A = ℕ} i 0) ≡ i = length-replicate i 0 in
-    let m : length o ≡ length e = ap length w ∙ length-written e 0 (replicate i 0) (omega arith) in
-    written-set o i 0 (omega arith)
-    ∙ ap (λ x. written x i (0 ∷ [])) w
-    ∙ written-more e 0 (replicate i 0) (0 ∷ []) i (omega arith) (omega arith)
-    ∙ ap (written e 0) (replicate-append-replicate i 1 0)
+-- a mark and a byte, and the zero behind them
+pub pair-put : (a b : ℕ) (e o p : List ℕ) (at : ℕ) → at + 2 ≤ length e → o ≡ written e at (a ∷ b ∷ [])
+    → p ≡ written o (at + 2) (zero_behind (at + 2) o) → p ≡ written e at (a ∷ b ∷ zero_behind (at + 2) e)
+pair-put a b e o p at h f g =
+    let m = a ∷ b ∷ [] in
+    g
+    ∙ ap (λ x. written o (at + 2) (put (ltb (at + 2) x) 0 [])) (ap length f ∙ length-written e at m (omega arith))
+    ∙ ap (λ x. written x (at + 2) (zero_behind (at + 2) e)) f
+    ∙ written-more e at m (zero_behind (at + 2) e) (at + 2) (omega arith) refl
 
-pub cleared-all : (e : List ℕ) (i : ℕ) → i ≡ length e → written e 0 (replicate i 0) ≡ cleared e
-unfolding cleared written
-cleared-all e i h =
-    ap (λ x. replicate i 0 ++ x) (drop_of_length-le e {i = 0 + length (replicate {A = ℕ} i 0)}
-    (omega (arith, length-replicate {A = ℕ} i 0)))
-    ∙ append-nil (replicate i 0) ∙ ap (λ x. replicate x 0) h
+pub pair-appended : (k : Call) (e : List ℕ) {a b at : ℕ} → Behind e at → marked k ≡ a ∷ b ∷ []
+    → written e at (a ∷ b ∷ zero_behind (at + 2) e) ≡ appended k e
+unfolding appended
+pair-appended k e {a} {b} f g =
+    ap (λ x. written e x (a ∷ b ∷ zero_behind (x + 2) e)) f.place
+    ∙ ap (λ x. written e (taken e) (x ++ zero_behind (taken e + length x) e)) (sym g)

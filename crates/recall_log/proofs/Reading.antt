@@ -1,21 +1,23 @@
 -- A record of the log as the code reads it: its tests in their order, and from one record to the next.
 -- Rests on `first` of Firsts: the call that some bytes begin with, and its bytes.
-use mathlib.Core.Path.{◌≡◌, refl, sym, subst, ap, ap₂, ◌∙◌}
+use mathlib.Core.Path.{◌≡◌, refl, sym, ap, ap₂, ◌∙◌}
 use mathlib.Core.Bool.{Bool, true, false, cond}
 use mathlib.Core.List.{List, [], ◌∷◌}
 use Prim.Native.Nat.{ℕ, ◌+◌, ◌-◌, ◌≤◌, ◌<◌}
 use native.Mathlib.Omega.{arith}
+use Rattle.std.specs.Prelude.{None, Some}
 use lib.Dec.{eqb}
 use lib.ListN.{length, get_or, take, drop, length-drop}
 use lib.Seq.{take_all, drop-drop}
 use borrow.Rule.Slice.PartMut.{mid_of}
-use borrow.Author.Tests.{lt-ltb, le-ltb}
+use borrow.Author.Tests.{lt-ltb, le-ltb, ne_eqb}
+use Rattle.std.proofs.lemmas.Option.{none-some, same_Some}
 use Rattle.rules.specs.Bytes.{value, field, message_size, largest_size}
 use Rattle.rules.specs.Card.{open_mark, close_mark, message_mark, tick_mark, message_from, mark_end, tick_end, header_end, message_end}
 use Rattle.rules.specs.Card.{Next, calls, ends, stops, next, next_message, next_tick}
 use Rattle.rules.proofs.Values.{field-one}
 use Rattle.recall_log.specs.declared.Record.{Record}
-use Rattle.recall_log.specs.declared.Record.TheVariants.{Open, Close, Message, Tick, None}
+use Rattle.recall_log.specs.declared.Record.TheVariants.{Open, Close, Message, Tick}
 use Rattle.recall_log.specs.declared.Held.{Held}
 use Rattle.recall_log.specs.Log.{kept_calls, taken}
 use Rattle.recall_log.specs.Kept.{record_of, record_in, call_of, span_of, Counts}
@@ -33,21 +35,32 @@ pub record-cut : (l : List ℕ) → length l < mark_end → record_in l ≡ None
 unfolding record_in record_of next
 record-cut l h = rw (lt-ltb (length l) mark_end h)
 
--- behind the first test
-pub record-at : (l : List ℕ) → mark_end ≤ length l
+-- behind the first test, of a log whose first byte is the mark
+pub record-at : (l : List ℕ) (mark : ℕ) → mark_end ≤ length l → get_or l 0 0 ≡ mark
     → record_in l
-    ≡ cond (eqb (get_or l 0 0) open_mark) (Open (get_or l 1 0))
-    (cond (eqb (get_or l 0 0) close_mark) (Close (get_or l 1 0))
-    (cond (eqb (get_or l 0 0) message_mark) (record_of (next_message l))
-    (cond (eqb (get_or l 0 0) tick_mark) (record_of (next_tick l)) None)))
+    ≡ cond (eqb mark open_mark) (Some (Open (get_or l 1 0)))
+    (cond (eqb mark close_mark) (Some (Close (get_or l 1 0)))
+    (cond (eqb mark message_mark) (record_of (next_message l))
+    (cond (eqb mark tick_mark) (record_of (next_tick l)) None)))
 unfolding record_in record_of next
-record-at l h = rw (le-ltb (length l) mark_end h, field-one 0 l (omega arith), field-one 1 l (omega arith)) (simp chosen)
+record-at l mark h e = rw (le-ltb (length l) mark_end h, field-one 0 l (omega arith), e, field-one 1 l (omega arith)) (simp chosen)
+
+pub record-none : (l : List ℕ) → mark_end ≤ length l → (get_or l 0 0 ≡ open_mark → ⊥) → (get_or l 0 0 ≡ close_mark → ⊥)
+    → (get_or l 0 0 ≡ message_mark → ⊥) → (get_or l 0 0 ≡ tick_mark → ⊥) → record_in l ≡ None
+record-none l h a b c d =
+    rw (
+      record-at l (get_or l 0 0) h refl,
+      ne_eqb (get_or l 0 0) open_mark a,
+      ne_eqb (get_or l 0 0) close_mark b,
+      ne_eqb (get_or l 0 0) message_mark c,
+      ne_eqb (get_or l 0 0) tick_mark d,
+    )
 
 pub tick-cut : (l : List ℕ) → length l < tick_end → record_of (next_tick l) ≡ None
 unfolding record_of next_tick
 tick-cut l h = rw (lt-ltb (length l) tick_end h)
 
-pub tick-whole : (l : List ℕ) → tick_end ≤ length l → record_of (next_tick l) ≡ Tick (field 2 4 l) (field 6 4 l)
+pub tick-whole : (l : List ℕ) → tick_end ≤ length l → record_of (next_tick l) ≡ Some (Tick (field 2 4 l) (field 6 4 l))
 unfolding record_of next_tick
 tick-whole l h = rw (le-ltb (length l) tick_end h)
 
@@ -68,7 +81,7 @@ module _ (l : List ℕ) (size : ℕ) (h : header_end ≤ length l) (e : size ≡
   unfolding record_of next_message
   message-cut f g = rw (le-ltb (length l) header_end h, size_is, le-ltb largest_size size f, lt-ltb (length l) (message_end size) g)
 
-  pub message-whole : size ≤ largest_size → message_end size ≤ length l → record_of (next_message l) ≡ Message (get_or l 1 0) size
+  pub message-whole : size ≤ largest_size → message_end size ≤ length l → record_of (next_message l) ≡ Some (Message (get_or l 1 0) size)
   unfolding record_of next_message
   message-whole f g =
       let own : message_size (take (8 + size) (message_from l)) ≡ size =
@@ -84,54 +97,55 @@ module _ (l : List ℕ) (size : ℕ) (h : header_end ≤ length l) (e : size ≡
 
 -- ## From one to the next
 
--- it takes no bytes: no call stands there
-pub span_none : (l : List ℕ) → span_of (record_in l) ≡ 0 → NoCall (next l)
-unfolding record_in
-span_none l e = go (next l) refl e
+-- no call stands there
+pub none-is : (l : List ℕ) → record_in l ≡ None → NoCall (next l)
+unfolding record_in record_of
+none-is l e = go (next l) refl e
   where
-    go : (x : Next) → next l ≡ x → span_of (record_of x) ≡ 0 → NoCall x
-    go (calls k m) f e = let g = first l f in absurd (omega (arith, g.span, g.two))
+    go : (x : Next) → next l ≡ x → record_of x ≡ None → NoCall x
+    go (calls k m) f e = absurd (none-some (first l f).kind (sym e ∙ (first l f).kind_is))
     go (ends k) f e = tt
     go stops f e = tt
 
--- it takes some: a call stands there, in the words of the record
-pub span-some : (l : List ℕ) → 0 < span_of (record_in l) → next l ≡ calls (call_of (record_in l) l) (drop (span_of (record_in l)) l)
-unfolding record_in record_of span_of
-span-some l h = go (next l) refl h
+-- a call stands there, in the words of the record
+pub some-is : (l : List ℕ) {r : Record} → record_in l ≡ Some r → next l ≡ calls (call_of r l) (drop (span_of r) l)
+unfolding record_in record_of
+some-is l {r} e = go (next l) refl e
   where
-    go : (x : Next) → next l ≡ x → 0 < span_of (record_of x) → x ≡ calls (call_of (record_of x) l) (drop (span_of (record_of x)) l)
-    go (calls k m) f h =
+    go : (x : Next) → next l ≡ x → record_of x ≡ Some r → x ≡ calls (call_of r l) (drop (span_of r) l)
+    go (calls k m) f e =
         let g = first l f in
-        ap (λ x. calls k x) (g.rest ∙ ap (λ n. drop n l) (sym g.span))
-        ∙ ap (λ x. calls x (drop (span_of (record_of (calls k m))) l)) (sym g.made)
-    go (ends k) f h = absurd (omega arith)
-    go stops f h = absurd (omega arith)
+        let h : g.kind ≡ r = same_Some g.kind r (sym g.kind_is ∙ e) in
+        ap (λ x. calls k x) (g.rest ∙ ap (λ n. drop n l) (sym g.span ∙ ap span_of h))
+        ∙ ap (λ x. calls x (drop (span_of r) l)) (sym g.made ∙ ap (λ x. call_of x l) h)
+    go (ends k) f e = absurd (none-some r e)
+    go stops f e = absurd (none-some r e)
 
--- ## A walk through the log l, at the place `at`; r: the record there
+-- ## A walk through the log l, at the place `at`
 
 -- the bytes from there on
 tail : (l : List ℕ) (at : ℕ) → mid_of at (length l - at) l ≡ drop at l
 tail l at = take_all (length l - at) (drop at l) (omega (arith, length-drop at l))
 
-module _ (l : List ℕ) (at : ℕ) (h : at ≤ length l) {r : Record} (e : r ≡ record_in (mid_of at (length l - at) l)) where
-  record_is : record_in (drop at l) ≡ r
-  record_is = ap record_in (sym (tail l at)) ∙ sym e
+module _ (l : List ℕ) (at : ℕ) where
+  pub walk_end : record_in (mid_of at (length l - at) l) ≡ None → (kept_calls (drop at l) ≡ []) × (taken (drop at l) ≡ 0)
+  walk_end e =
+      let n = none-is (drop at l) (ap record_in (sym (tail l at)) ∙ e) in
+      (calls-none (drop at l) n, taken_none (drop at l) n)
 
-  none-there : span_of r ≡ 0 → NoCall (next (drop at l))
-  none-there z = span_none (drop at l) (ap span_of record_is ∙ z)
+  -- r: the record there
+  module _ (h : at ≤ length l) {r : Record} (e : record_in (mid_of at (length l - at) l) ≡ Some r) where
+    record_is : record_in (drop at l) ≡ Some r
+    record_is = ap record_in (sym (tail l at)) ∙ e
 
-  pub walk_end : span_of r ≡ 0 → (kept_calls (drop at l) ≡ []) × (taken (drop at l) ≡ 0)
-  walk_end z = (calls-none (drop at l) (none-there z), taken_none (drop at l) (none-there z))
-
-  module _ (z : 0 < span_of r) where
     there : next (drop at l) ≡ calls (call_of r (drop at l)) (drop (span_of r) (drop at l))
-    there =
-        subst (λ x. 0 < span_of x → next (drop at l) ≡ calls (call_of x (drop at l)) (drop (span_of x) (drop at l))) record_is
-        (span-some (drop at l)) z
+    there = some-is (drop at l) record_is
 
     size-is-span : (first (drop at l) there).size ≡ span_of r
     unfolding record_in
-    size-is-span = sym (first (drop at l) there).span ∙ ap (λ x. span_of (record_of x)) (sym there) ∙ ap span_of record_is
+    size-is-span =
+        let f = first (drop at l) there in
+        sym f.span ∙ ap span_of (same_Some f.kind r (sym f.kind_is ∙ ap record_of (sym there) ∙ record_is))
 
     pub walk-within : (2 ≤ span_of r) × (at + span_of r ≤ length l)
     walk-within =
@@ -157,31 +171,22 @@ pub record Counting (l : List ℕ) (at n : ℕ) : Type 0 where
 pub counting-none : (l : List ℕ) → Counting l 0 0
 counting-none l = record { there = omega arith; few = omega arith; calls = omega arith; bytes = omega arith }
 
--- k: the bytes of the record r there
-module _ {l : List ℕ} {at n : ℕ} (c : Counting l at n) {r : Record} (e : r ≡ record_in (mid_of at (length l - at) l)) {k : ℕ}
-    (f : k ≡ span_of r) where
-  pub counting-end : k ≡ 0 → Counts l (record { calls = n; taken = at })
-  counting-end z =
-      let w = walk_end l at c.there e (sym f ∙ z) in
+module _ {l : List ℕ} {at n : ℕ} (c : Counting l at n) where
+  pub counting-end : record_in (mid_of at (length l - at) l) ≡ None → Counts l (record { calls = n; taken = at })
+  counting-end e =
+      let w = walk_end l at e in
       record { calls = omega (arith, c.calls, ap length w.0); taken = omega (arith, c.bytes, w.1) }
 
-  module _ (z : k ≡ 0 → ⊥) where
-    some : 0 < span_of r
-    some = omega (arith, z)
-
-    pub counting-within : (2 ≤ k) × (at + k ≤ length l)
-    counting-within = let w = walk-within l at c.there e some in (omega (arith, w.0), omega (arith, w.1))
-
-    pub counting_more : Counting l (at + k) (n + 1)
-    counting_more =
-        let w = counting-within in
-        subst (λ i. Counting l (at + i) (n + 1)) (sym f)
-        (record {
-          there = (walk-within l at c.there e some).1;
-          few = omega (arith, w.0, c.few);
-          calls = omega (arith, c.calls, ap length (walk-calls l at c.there e some));
-          bytes = omega (arith, c.bytes, walk-taken l at c.there e some);
-        })
+  -- r: the record there
+  pub counting_more : {r : Record} → record_in (mid_of at (length l - at) l) ≡ Some r → Counting l (at + span_of r) (n + 1)
+  counting_more e =
+      let w = walk-within l at c.there e in
+      record {
+        there = w.1;
+        few = omega (arith, w.0, c.few);
+        calls = omega (arith, c.calls, ap length (walk-calls l at c.there e));
+        bytes = omega (arith, c.bytes, walk-taken l at c.there e);
+      }
 
 -- any two results that the promise allows are equal
 pub counts_same : (l : List ℕ) (g h : Held) → Counts l g → Counts l h → g ≡ h

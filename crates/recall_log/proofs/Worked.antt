@@ -11,7 +11,8 @@ use Rattle.rules.specs.Bytes.{bytes, value, value_from, message_size, written}
 use Rattle.rules.specs.Calls.{opens, closes, messages, ticks}
 use Rattle.rules.specs.HouseNumbers.{lending, lending_maps}
 use Rattle.rules.specs.Card.{card_loans, next, next_message, next_tick}
-use Rattle.recall_log.specs.declared.Reply.TheVariants.{Full}
+use Rattle.std.specs.Prelude.{Err}
+use Rattle.recall_log.specs.declared.Refused.TheVariants.{Full}
 use Rattle.recall_log.specs.Log.{stepped, calls_in, bytes_in, kept_calls, taken, free, full, longest_record}
 use Rattle.recall_log.specs.Kept.{kept_form, marked, appended, cleared, number_of}
 use Rattle.recall_log.proofs.Appends.{Keepable, appended-free}
@@ -87,7 +88,7 @@ fills-log : appended (kept_form (opens 1)) (0x00 ∷ 0x00 ∷ []) ≡ 0x4F ∷ 0
 unfolding computing
 fills-log = refl
 
-full-number : number_of Full ≡ 13
+full-number : number_of (Err Full) ≡ 13
 unfolding computing
 full-number = refl
 

@@ -1,4 +1,5 @@
 -- 02, CR 12: what the log keeps of a call, and the log after it.
+use Rattle.std.specs.Prelude.{Option, None, Some, Result, Ok, Err}
 use Rattle.std.specs.Prelude.{◌≡◌, Bool, true, false, cond, List, [], ◌∷◌, ◌++◌, ℕ, ◌+◌, ◌≤◌, ltb, length, take, drop, replicate}
 use Rattle.rules.specs.Lists.{put}
 use Rattle.rules.specs.Bytes.{bytes, part, message_size, written}
@@ -9,12 +10,11 @@ use Rattle.rules.specs.Card.{card_room, card_loans, open_mark, close_mark, messa
 use Rattle.rules.specs.Card.{Next, calls, ends, stops, next}
 pub use Rattle.reply.specs.Unmoved.{unmoved}
 use Rattle.recall_log.specs.declared.Record.{Record}
-use Rattle.recall_log.specs.declared.Record.TheVariants.{Open, Close, Message, Tick, None}
+use Rattle.recall_log.specs.declared.Record.TheVariants.{Open, Close, Message, Tick}
 use Rattle.recall_log.specs.declared.Held.{Held}
-use Rattle.recall_log.specs.declared.Space.{Space}
-use Rattle.recall_log.specs.declared.Space.TheVariants.{From, NoSpace}
-use Rattle.recall_log.specs.declared.Reply.{Reply}
-use Rattle.recall_log.specs.declared.Reply.TheVariants.{Full, Refused, Done}
+use Rattle.reply.specs.declared.Did.{Did}
+use Rattle.recall_log.specs.declared.Refused.{Refused}
+use Rattle.recall_log.specs.declared.Refused.TheVariants.{Full, Rule}
 use Rattle.recall_log.specs.Log.{kept_calls, taken, free, longest_record, full}
 
 -- ## A call in the form that is kept
@@ -85,41 +85,44 @@ is_good (good consumed rs) = true
 
 -- ## What is answered
 
+-- what a call did, or why it is refused
+abbrev pub Reply : Type 0
+Reply = Result Did Refused
+
 -- "house number 13 from this engine alone"; no number: it is good
 unfoldable pub number_of : Reply → ℕ
-number_of Full = 13
-number_of (Refused n) = house_number n
-number_of (Done did) = 0
+number_of (Err Full) = 13
+number_of (Err (Rule n)) = house_number n
+number_of (Ok did) = 0
 
 -- an answer of the rules
 unfoldable pub reply_of : Answer → (moved : ℕ) → Reply
-reply_of (refused n) moved = Refused n
-reply_of (good consumed rs) moved = Done (record { consumed = consumed; written = length (output rs); moved = moved })
+reply_of (refused n) moved = Err (Rule n)
+reply_of (good consumed rs) moved = Ok (record { consumed = consumed; written = length (output rs); moved = moved })
 
 -- ## As the code has it
 
 -- one record
-unfoldable pub record_of : Next → Record
-record_of (calls (opens c) m) = Open c
-record_of (calls (closes c room) m) = Close c
-record_of (calls (messages c l loans) m) = Message c (message_size l)
-record_of (calls (ticks seconds micros room) m) = Tick seconds micros
+unfoldable pub record_of : Next → Option Record
+record_of (calls (opens c) m) = Some (Open c)
+record_of (calls (closes c room) m) = Some (Close c)
+record_of (calls (messages c l loans) m) = Some (Message c (message_size l))
+record_of (calls (ticks seconds micros room) m) = Some (Tick seconds micros)
 record_of (calls (moves until room) m) = None
 record_of (calls (cues section pts seconds micros room) m) = None
 record_of (ends k) = None
 record_of stops = None
 
 -- that l begins with
-unfoldable pub record_in : List ℕ → Record
+unfoldable pub record_in : List ℕ → Option Record
 record_in l = record_of (next l)
 
--- its call; none is no call
+-- its call
 unfoldable pub call_of : Record → List ℕ → Call
 call_of (Open c) l = opens c
 call_of (Close c) l = closes c card_room
 call_of (Message c size) l = messages c (part mark_end (8 + size) l) card_loans
 call_of (Tick seconds micros) l = ticks seconds micros card_room
-call_of None l = opens 0
 
 -- the bytes that it takes
 unfoldable pub span_of : Record → ℕ
@@ -127,7 +130,6 @@ span_of (Open c) = mark_end
 span_of (Close c) = mark_end
 span_of (Message c size) = message_end size
 span_of (Tick seconds micros) = tick_end
-span_of None = 0
 
 -- how many calls are in l, and the bytes that they take
 pub record Counts (l : List ℕ) (h : Held) : Type 0 where
@@ -135,8 +137,8 @@ pub record Counts (l : List ℕ) (h : Held) : Type 0 where
   pub taken : h.taken ≡ taken l
 
 -- where the next record goes, or 13
-unfoldable pub space_in : List ℕ → Space
-space_in l = cond (full l) NoSpace (From (taken l))
+unfoldable pub space_in : List ℕ → Option ℕ
+space_in l = cond (full l) None (Some (taken l))
 
 -- `at` is that place
 pub record Behind (l : List ℕ) (at : ℕ) : Type 0 where

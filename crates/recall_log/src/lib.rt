@@ -5,10 +5,13 @@ mod keeping;
 mod records;
 
 ghost use Rattle.std.specs.Prelude.{◌≡◌};
+ghost use Rattle.recall_log.specs.declared.Refused.TheVariants.{Rule};
 ghost use Rattle.recall_log.specs.Kept.{Counts, space_in};
 
 pub use keeping::{clear, keep_close, keep_message, keep_open, keep_tick};
-pub use records::{record_at, span_of};
+pub use records::{
+    CLOSE_MARK, HEADER_END, MARK_END, MESSAGE_MARK, OPEN_MARK, TICK_MARK, record_at, span_of,
+};
 use reply::Did;
 use rules::Refusal;
 
@@ -21,14 +24,13 @@ const MOST: usize = 256;
 // "under 4,098 of its bytes are free"
 const LONGEST_RECORD: usize = 4098;
 
-// What stands in the log at a place: a connection, the MessageSize, Seconds and MicroSeconds; or no call.
+// What stands in the log at a place: a connection, the MessageSize, Seconds and MicroSeconds.
 #[derive(Clone, Copy)]
 pub enum Record {
     Open(u8),
     Close(u8),
     Message(u8, u16),
     Tick(u32, u32),
-    None,
 }
 
 // What is in a log: how many calls, and the bytes that they take.
@@ -38,20 +40,23 @@ pub struct Held {
     pub taken: usize,
 }
 
-// Where the next record goes; or the log is full.
+// Why this engine refuses: 13, or the rules' refusal.
 #[derive(Clone, Copy)]
-pub enum Space {
-    From(usize),
-    NoSpace,
+pub enum Refused {
+    Full,
+    Rule(Refusal),
 }
 
-// What this engine answers: 13, or the rules' refusal, or what the call did.
-#[derive(Clone, Copy)]
-pub enum Reply {
-    Full,
-    Refused(Refusal),
-    Done(Did),
+impl From<Refusal> for Refused {
+    ghost from_gives = { λ n r. r ≡ Rule n };
+
+    fn from(n: Refusal) -> Refused {
+        Refused::Rule(n)
+    }
 }
+
+// What this engine answers.
+pub type Reply = Result<Did, Refused>;
 
 // From call to call, up to the first byte that begins none.
 fn count(l: &[u8]) -> Held
@@ -59,32 +64,29 @@ fn count(l: &[u8]) -> Held
 {
     let mut at = 0;
     let mut n = 0;
-    loop {
-        let k = span_of(record_at(&l[at..]));
-        if k == 0 {
-            return Held {
-                calls: n,
-                taken: at,
-            };
-        }
-        at += k;
+    while let Some(r) = record_at(&l[at..]) {
+        at += span_of(r);
         n += 1;
+    }
+    Held {
+        calls: n,
+        taken: at,
     }
 }
 
 // 13, "exactly when the log isn't 65,536 bytes, 256 calls are kept or under 4,098 of its bytes are free".
-pub fn next_place(l: &[u8]) -> Space
+pub fn next_place(l: &[u8]) -> Option<usize>
     ensures { result ≡ space_in l.now }
 {
     if l.len() != LOG {
-        return Space::NoSpace;
+        return None;
     }
     let h = count(l);
     if MOST <= h.calls {
-        return Space::NoSpace;
+        return None;
     }
     if LOG - h.taken < LONGEST_RECORD {
-        return Space::NoSpace;
+        return None;
     }
-    Space::From(h.taken)
+    Some(h.taken)
 }

@@ -1,4 +1,5 @@
 // One record of the log, as the card program reads it: its kind, and how many bytes it takes.
+// feed reads the same marks; the second engine has rules of its own (02, CR 12).
 ghost use Rattle.std.specs.Prelude.{◌≡◌};
 ghost use Rattle.rules.specs.Card.{next_message, next_tick};
 ghost use Rattle.recall_log.specs.Kept.{record_of, record_in, span_of};
@@ -7,59 +8,58 @@ use super::Record;
 use reading::LONGEST;
 use reading::numbers::{number2, number4};
 
+// What a record begins with.
+pub const OPEN_MARK: u8 = 0x4F;
+
+pub const CLOSE_MARK: u8 = 0x43;
+
+pub const MESSAGE_MARK: u8 = 0x4D;
+
+pub const TICK_MARK: u8 = 0x54;
+
 // Where a record ends: an open or a close, a tick, and a message's header, behind which its data stands.
 pub const MARK_END: usize = 2;
 
 pub const TICK_END: usize = 10;
 
-const HEADER_END: usize = 10;
+pub const HEADER_END: usize = 10;
 
-fn message_at(l: &[u8]) -> Record
+fn message_at(l: &[u8]) -> Option<Record>
     ensures { result ≡ record_of (next_message l.now) }
 {
     if l.len() < HEADER_END {
-        return Record::None;
+        return None;
     }
     let size = number2(l, 4);
     if LONGEST < size {
-        return Record::None;
+        return None;
     }
     if l.len() < HEADER_END + size as usize {
-        return Record::None;
+        return None;
     }
-    Record::Message(l[1], size)
+    Some(Record::Message(l[1], size))
 }
 
-fn tick_at(l: &[u8]) -> Record
+fn tick_at(l: &[u8]) -> Option<Record>
     ensures { result ≡ record_of (next_tick l.now) }
 {
     if l.len() < TICK_END {
-        return Record::None;
+        return None;
     }
-    Record::Tick(number4(l, 2), number4(l, 6))
+    Some(Record::Tick(number4(l, 2), number4(l, 6)))
 }
 
 // "4F c", "43 c", "4D c" and a message, "54 00" and the time; a byte that is no mark begins no call.
-pub fn record_at(l: &[u8]) -> Record
+pub fn record_at(l: &[u8]) -> Option<Record>
     ensures { result ≡ record_in l.now }
 {
-    if l.len() < MARK_END {
-        return Record::None;
+    match l {
+        [OPEN_MARK, conn, ..] => Some(Record::Open(*conn)),
+        [CLOSE_MARK, conn, ..] => Some(Record::Close(*conn)),
+        [MESSAGE_MARK, _, ..] => message_at(l),
+        [TICK_MARK, _, ..] => tick_at(l),
+        _ => None,
     }
-    let mark = l[0];
-    if mark == 0x4F {
-        return Record::Open(l[1]);
-    }
-    if mark == 0x43 {
-        return Record::Close(l[1]);
-    }
-    if mark == 0x4D {
-        return message_at(l);
-    }
-    if mark == 0x54 {
-        return tick_at(l);
-    }
-    Record::None
 }
 
 // The bytes that a record takes.
@@ -67,10 +67,8 @@ pub fn span_of(r: Record) -> usize
     ensures { result ≡ span_of r }
 {
     match r {
-        Record::Open(_) => MARK_END,
-        Record::Close(_) => MARK_END,
+        Record::Open(_) | Record::Close(_) => MARK_END,
         Record::Message(_, size) => HEADER_END + size as usize,
         Record::Tick(_, _) => TICK_END,
-        Record::None => 0,
     }
 }

@@ -3,15 +3,17 @@
 use mathlib.Core.Path.{◌≡◌, refl, sym, ap, ap₂, subst, ◌∙◌}
 use mathlib.Core.Bool.{Bool, true, false, cond}
 use mathlib.Core.List.{List, ◌++◌, map}
-use Prim.Native.Nat.{ℕ, ◌+◌, ◌-◌, ◌*◌, ◌≤◌, ◌<◌}
+use Prim.Native.Nat.{ℕ, ◌+◌, ◌-◌, ◌*◌, ◌≤◌}
 use native.Mathlib.Omega.{arith}
 use lib.Dec.{ltb}
 use lib.ListN.{length, take, drop, set, length-drop}
-use borrow.Author.Tests.{ltb-false, ne_eqb}
+use borrow.Author.Tests.{ltb-false}
 use borrow.Rule.Slice.PartMut.{mid_of}
 use Rattle.rules.specs.declared.Session.{Session}
-use Rattle.rules.specs.declared.Framing.{Framing}
-use Rattle.rules.specs.declared.Framing.TheVariants.{Framed, Unframed}
+use Rattle.std.specs.Prelude.{Option, Some, Result, Ok, Err}
+use Rattle.rules.specs.declared.Header.{Header}
+use Rattle.rules.specs.declared.Refusal.{Refusal}
+use Rattle.rules.specs.declared.Link.TheVariants.{Initialised}
 use Rattle.rules.specs.declared.Refusal.TheVariants.{NoConnection, NoRoom, NotOpen, LongSection}
 use Rattle.rules.specs.Lists.{All}
 use Rattle.rules.specs.Bytes.{value, part, field, message_size, oversize, data_of}
@@ -27,18 +29,18 @@ use Rattle.recall_rules.specs.declared.Phase.TheVariants.{Waits}
 use Rattle.recall_rules.specs.declared.Verdict.{Verdict}
 use Rattle.recall_rules.specs.Verdicts.{verdict}
 use Rattle.recall_rules.specs.Calls.{Pass, Called, not_open, refuse, section_of, answer, handled, message_call, call}
-use Rattle.recall_rows.specs.Rows.{width, verdicts_in, Fits}
+use Rattle.recall_rows.specs.Rows.{width, all, Fits}
 use Rattle.recall_answers.specs.declared.Carried.{Carried}
 use Rattle.recall_answers.specs.declared.Given.{Given}
 use Rattle.recall_answers.specs.declared.Effect.{Effect}
 use Rattle.recall_answers.specs.declared.Effect.TheVariants.{Nothing, Joins, Enters, Configures}
-use Rattle.recall_answers.specs.Replies.{link_for, pass_of, hardware_at, hardwares, Placed, effected, Left, Replies}
+use Rattle.recall_answers.specs.Replies.{pass_of, hardware_at, hardwares, Placed, effected, Left, Replies}
 use Rattle.recall_log.proofs.Firsts.{part-take}
 use Rattle.recall_pass.specs.declared.Heard.{Heard}
 use Rattle.recall_pass.specs.Passes.{rows_of, pass_in, relinked, replaced, framed, FramesAny, kept_by, Settles, SettlesAny, Hears}
 use Rattle.recall_pass.specs.Passes.{HearsAny, Leads}
 use Rattle.recall_pass.proofs.Rows.{map-set, all_set, rows_back, all_more}
-use Rattle.recall_pass.proofs.Calls.{made, linked-is, stays}
+use Rattle.recall_pass.proofs.Calls.{made, stays, ok_no_err}
 
 -- ## What is left to do
 
@@ -55,16 +57,16 @@ module _ (c : ℕ) (h : Carried) (m : List ℕ) (f : Fits (h.rows + 1) m) {x : E
       subst (λ (y : Effect). Settles c d y hardware h m h m) (sym e) (record
       { pass = refl; fits = omega arith; few = omega arith; places = refl })
 
-  pub settles-enters : {r : Carried} → x ≡ Enters → r ≡ relinked c 2 h → Settles c d x hardware h m r m
-  unfolding kept_by effected link_for
+  pub settles-enters : {r : Carried} → x ≡ Enters → r ≡ relinked c Initialised h → Settles c d x hardware h m r m
+  unfolding kept_by effected
   settles-enters {r} e g =
       subst (λ (y : Effect). Settles c d y hardware h m r m) (sym e)
       (subst (λ (y : Carried). Settles c d Enters hardware h m y m) (sym g)
-      (record { pass = linked-is _ h (rows_of h m) c 2; fits = omega arith; few = omega arith; places = refl }))
+      (record { pass = refl; fits = omega arith; few = omega arith; places = refl }))
 
   -- k: the words with the row behind the last
   pub settles-joins : {s : Session} {k : List ℕ} → x ≡ Joins s → length k ≡ length m
-      → verdicts_in (h.rows + 1) k ≡ set (verdicts_in (h.rows + 1) m) h.rows (verdict Waits s)
+      → all k ≡ set (all m) h.rows (verdict Waits s)
       → Settles c d x hardware h m (record { clock = h.clock; links = h.links; places = h.places; rows = h.rows + 1 }) k
   unfolding kept_by effected
   settles-joins {s} {k} e z v =
@@ -107,8 +109,8 @@ message-is c l loans s = go (no_connection c) (no_room loans.room) (not_open c s
   where
     go : (a b x y : Bool) → cond a (refuse NoConnection s) (cond b (refuse NoRoom s)
         (cond x (refuse NotOpen s) (cond y (refuse LongSection s) (handled c (framing l) l loans s))))
-        ≡ handled c (cond a (Unframed NoConnection) (cond b (Unframed NoRoom)
-        (cond x (Unframed NotOpen) (cond y (Unframed LongSection) (framing l))))) l loans s
+        ≡ handled c (cond a (Err NoConnection) (cond b (Err NoRoom)
+        (cond x (Err NotOpen) (cond y (Err LongSection) (framing l))))) l loans s
     go true b x y = refl
     go false true x y = refl
     go false false true y = refl
@@ -116,24 +118,23 @@ message-is c l loans s = go (no_connection c) (no_room loans.room) (not_open c s
     go false false false false = refl
 
 -- what the work may rely on
-pub framed-low : (c : ℕ) (l : List ℕ) (room : ℕ) (long : Bool) (s : Pass) {id n : ℕ} → framed c l room long s ≡ Framed id n
-    → (c ≤ 3) × (4096 ≤ room) × (long ≡ false) × (framing l ≡ Framed id n)
+pub framed-low : (c : ℕ) (l : List ℕ) (room : ℕ) (long : Bool) (s : Pass) {x : Header} → framed c l room long s ≡ Ok x
+    → (c ≤ 3) × (4096 ≤ room) × (long ≡ false) × (framing l ≡ Ok x)
 unfolding framed
-framed-low c l room long s {id} {n} = go (no_connection c) (no_room room) (not_open c s) long refl refl refl
+framed-low c l room long s {x} = go (no_connection c) (no_room room) (not_open c s) long refl refl refl
   where
-    go : (a b x y : Bool) → no_connection c ≡ a → no_room room ≡ b → long ≡ y
-        → cond a (Unframed NoConnection) (cond b (Unframed NoRoom) (cond x (Unframed NotOpen) (cond y (Unframed LongSection) (framing l))))
-        ≡ Framed id n
-        → (c ≤ 3) × (4096 ≤ room) × (long ≡ false) × (framing l ≡ Framed id n)
-    go true b x y e f g z = let i : ◌≡◌ {A = ℕ} 0 1 = cc in absurd (omega arith)
-    go false true x y e f g z = let i : ◌≡◌ {A = ℕ} 0 1 = cc in absurd (omega arith)
-    go false false true y e f g z = let i : ◌≡◌ {A = ℕ} 0 1 = cc in absurd (omega arith)
-    go false false false true e f g z = let i : ◌≡◌ {A = ℕ} 0 1 = cc in absurd (omega arith)
+    go : (a b o y : Bool) → no_connection c ≡ a → no_room room ≡ b → long ≡ y
+        → cond a (Err NoConnection) (cond b (Err NoRoom) (cond o (Err NotOpen) (cond y (Err LongSection) (framing l)))) ≡ Ok x
+        → (c ≤ 3) × (4096 ≤ room) × (long ≡ false) × (framing l ≡ Ok x)
+    go true b o y e f g z = absurd (ok_no_err (sym z))
+    go false true o y e f g z = absurd (ok_no_err (sym z))
+    go false false true y e f g z = absurd (ok_no_err (sym z))
+    go false false false true e f g z = absurd (ok_no_err (sym z))
     go false false false false e f g z = (ltb-false 3 c e, ltb-false room 4096 f, g, z)
 
-abbrev Sized : List ℕ → Framing → Type 0
-Sized l (Framed id n) = n ≡ message_size l
-Sized l (Unframed r) = Unit {0}
+abbrev Sized : List ℕ → Result Header Refusal → Type 0
+Sized l (Ok x) = x.size ≡ message_size l
+Sized l (Err n) = Unit {0}
 
 sized : (l : List ℕ) → Sized l (framing l)
 unfolding framing
@@ -141,15 +142,15 @@ sized l =
     by (Sized l) (ltb (length l) 8) _ _ (λ e. tt)
     (λ e. by (Sized l) (oversize l) _ _ (λ f. tt) (λ f. by (Sized l) (ltb (length l) (8 + message_size l)) _ _ (λ g. tt) (λ g. refl)))
 
-pub framed-size : (l : List ℕ) {id n : ℕ} → framing l ≡ Framed id n → n ≡ message_size l
+pub framed-size : (l : List ℕ) {x : Header} → framing l ≡ Ok x → x.size ≡ message_size l
 framed-size l e = subst (Sized l) e (sized l)
 
 -- a call that was refused
-unframed : (c : ℕ) (f : Framing) (l : List ℕ) (loans : Loans) (s : Pass) → ((id n : ℕ) → f ≡ Framed id n → ⊥)
+unframed : (c : ℕ) (f : Result Header Refusal) (l : List ℕ) (loans : Loans) (s : Pass) → ((x : Header) → f ≡ Ok x → ⊥)
     → (handled c f l loans s).pass ≡ s
 unfolding handled
-unframed c (Framed id n) l loans s e = absurd (e id n refl)
-unframed c (Unframed r) l loans s e = refl
+unframed c (Ok x) l loans s e = absurd (e x refl)
+unframed c (Err n) l loans s e = refl
 
 -- every answer but that of an Init_Request with 100
 pub not-entering : (x : Effect) (c : ℕ) (d : List ℕ) (hs : List (List ℕ)) → (x ≡ Enters → ⊥)
@@ -184,7 +185,8 @@ module _ (log : List ℕ) (from : ℕ) (w : from + (8 + message_size (drop from 
     pub part-is : read ≡ there
     part-is = part-there (size-there e)
 
-    pub framed-there : (c : ℕ) (h : Carried) (m : List ℕ) {room : ℕ} {f : Framing} → room ≡ 4096 → FramesAny c read room false h f
+    pub framed-there : (c : ℕ) (h : Carried) (m : List ℕ) {room : ℕ} {f : Result Header Refusal} → room ≡ 4096
+        → FramesAny c read room false h f
         → f ≡ framed c there 4096 false (pass_in log h m)
     framed-there c h m i g = g (hardwares log h) (rows_of h m) ∙ ap₂ (λ (l : List ℕ) (r : ℕ). framed c l r false (pass_in log h m)) part-is
         i
@@ -195,7 +197,7 @@ module _ (log : List ℕ) (from : ℕ) (w : from + (8 + message_size (drop from 
   own-data : data_of size there ≡ data_of size (drop from log)
   own-data = part-take 8 size (8 + size) (drop from log) (omega arith) (omega (arith, length-drop from log))
 
-  module _ (c : ℕ) (h : Carried) (m : List ℕ) (f : Framing) (is : f ≡ framed c there 4096 false (pass_in log h m)) where
+  module _ (c : ℕ) (h : Carried) (m : List ℕ) (f : Result Header Refusal) (is : f ≡ framed c there 4096 false (pass_in log h m)) where
     abbrev s : Pass
     s = pass_in log h m
 
@@ -204,37 +206,37 @@ module _ (log : List ℕ) (from : ℕ) (w : from + (8 + message_size (drop from 
 
     called_is : called ≡ handled c f there card_loans s
     unfolding call
-    called_is = message-is c there card_loans s ∙ ap (λ (x : Framing). handled c x there card_loans s) (sym is)
+    called_is = message-is c there card_loans s ∙ ap (λ (x : Result Header Refusal). handled c x there card_loans s) (sym is)
 
-    pub message-stays : ((id n : ℕ) → f ≡ Framed id n → ⊥) → Fits h.rows m → Leads log h called h m
+    pub message-stays : ((x : Header) → f ≡ Ok x → ⊥) → Fits h.rows m → Leads log h called h m
     message-stays k z = stays log h m z (ap (λ (x : Called). x.pass) called_is ∙ unframed c f there card_loans s k)
 
-    module _ (id n : ℕ) (e : f ≡ Framed id n) where
-      past : (c ≤ 3) × (4096 ≤ 4096) × (false ≡ false) × (framing there ≡ Framed id n)
+    module _ (head : Header) (e : f ≡ Ok head) where
+      past : (c ≤ 3) × (4096 ≤ 4096) × (false ≡ false) × (framing there ≡ Ok head)
       past = framed-low c there 4096 false s (sym is ∙ e)
 
       pub message-low : c ≤ 3
       message-low = past.0
 
-      pub message-long : 8 + n ≤ length there
-      message-long = (reads.framed there id n past.3).0
+      pub message-long : 8 + head.size ≤ length there
+      message-long = (reads.framed there head past.3).0
 
-      n-is : n ≡ size
+      n-is : head.size ≡ size
       n-is = framed-size there past.3 ∙ own-size
 
       -- d: the data that is heard; g, k: what is carried and the words after it
-      module _ (d : List ℕ) (a : d ≡ data_of n there) {b o k : List ℕ} {g : Heard} (y : HearsAny c id d h m b g k o) where
+      module _ (d : List ℕ) (a : d ≡ data_of head.size there) {b o k : List ℕ} {g : Heard} (y : HearsAny c head.id d h m b g k o) where
         abbrev section : List ℕ
         section = section_of card_loans s
 
-        heard : Hears c d section (answer c id d section s) s h b g k o
+        heard : Hears c d section (answer c head.id d section s) s h b g k o
         heard = y (hardwares log h) section
 
-        answer-is : (answer c id d section s).pass ≡ called.pass
+        answer-is : (answer c head.id d section s).pass ≡ called.pass
         unfolding handled
         answer-is =
-            ap (λ (x : List ℕ). (answer c id x section s).pass) a
-            ∙ sym (ap (λ (x : Called). x.pass) (called_is ∙ ap (λ (x : Framing). handled c x there card_loans s) e))
+            ap (λ (x : List ℕ). (answer c head.id x section s).pass) a
+            ∙ sym (ap (λ (x : Called). x.pass) (called_is ∙ ap (λ (x : Result Header Refusal). handled c x there card_loans s) e))
 
         pub message-leads : (g.effect ≡ Enters → ⊥) → Leads log h called g.carried k
         message-leads z =
@@ -244,34 +246,34 @@ module _ (log : List ℕ) (from : ℕ) (w : from + (8 + message_size (drop from 
               pass = ap (λ (hs : List (List ℕ)). pass_of hs g.carried (rows_of g.carried k)) i ∙ heard.pass ∙ answer-is;
               fits = heard.fits;
               few = heard.few;
-              placed = subst (λ (x : List ℕ). All (Placed log) x) (sym heard.places);
+              placed = subst (λ (x : List (Option ℕ)). All (Placed log) x) (sym heard.places);
             }
 
         -- its data stands in the log from now on
-        module _ (z : 0 < from) (i : g.effect ≡ Enters) where
+        module _ (i : g.effect ≡ Enters) where
           data_is : d ≡ data_of size (drop from log)
           data_is = a ∙ ap (λ (j : ℕ). data_of j there) n-is ∙ own-data
 
-          hardware-is : hardware_at log from ≡ hardware_in d
+          hardware-is : hardware_at log (Some from) ≡ hardware_in d
           unfolding hardware_at
-          hardware-is = rw (ne_eqb from 0 (λ q. omega (arith, z, q))) (ap hardware_in (sym data_is))
+          hardware-is = ap hardware_in (sym data_is)
 
           good : bad_init (data_of size (drop from log)) ≡ false
           good = subst (λ (x : List ℕ). bad_init x ≡ false) data_is
-              (subst (λ (x : Effect). Left x c d section s (answer c id d section s).written) i heard.left)
+              (subst (λ (x : Effect). Left x c d section s (answer c head.id d section s).written) i heard.left)
 
-          pub message-enters : {r : Carried} → r ≡ replaced c from g.carried → Leads log h called r k
+          pub message-enters : {r : Carried} → r ≡ replaced c (Some from) g.carried → Leads log h called r k
           unfolding kept_by
           message-enters {r} q =
-              let v : map (hardware_at log) (set g.carried.places c from) ≡ kept_by g.effect c d (hardwares log h) =
-              map-set (hardware_at log) g.carried.places c from
-              ∙ ap₂ (λ (x : List ℕ) (y : List ℕ). set (map (hardware_at log) x) c y) heard.places hardware-is
+              let v : map (hardware_at log) (set g.carried.places c (Some from)) ≡ kept_by g.effect c d (hardwares log h) =
+              map-set (hardware_at log) g.carried.places c (Some from)
+              ∙ ap₂ (λ (x : List (Option ℕ)) (y : List ℕ). set (map (hardware_at log) x) c y) heard.places hardware-is
               ∙ ap (λ (x : Effect). kept_by x c d (hardwares log h)) (sym i) in
               subst (λ (x : Carried). Leads log h called x k) (sym q)
               (record {
                 pass = ap (λ (hs : List (List ℕ)). pass_of hs g.carried (rows_of g.carried k)) v ∙ heard.pass ∙ answer-is;
                 fits = heard.fits;
                 few = heard.few;
-                placed = λ x. all_set (Placed log) g.carried.places c from (record { whole = λ n. w; good = λ n. good })
-                    (subst (λ (p : List ℕ). All (Placed log) p) (sym heard.places) x);
+                placed = λ x. all_set (Placed log) g.carried.places c (Some from) (record { whole = w; good = good })
+                    (subst (λ (p : List (Option ℕ)). All (Placed log) p) (sym heard.places) x);
               })

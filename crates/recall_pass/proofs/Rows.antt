@@ -3,14 +3,13 @@ use mathlib.Core.Path.{◌≡◌, refl, sym, ap, ◌∙◌}
 use mathlib.Core.List.{List, [], ◌∷◌, ◌++◌, map}
 use Prim.Native.Nat.{ℕ, zero, suc, ◌+◌, ◌*◌, ◌/◌, ◌≤◌}
 use native.Mathlib.Omega.{arith}
-use native.Mathlib.Numerals.{add-one}
 use lib.ListN.{length, take, drop, set, length-append, length-drop, get_or-append, take-append-drop}
-use lib.Seq.{length-take-le, take_at, drop-append-le, drop-drop, set_at}
+use lib.Seq.{length-take-le, take_at, drop-append-le}
 use Rattle.rules.specs.Lists.{All}
 use Rattle.recall_rules.specs.declared.Verdict.{Verdict}
-use Rattle.recall_rows.specs.Rows.{width, row, verdicts_in, Fits}
-use Rattle.recall_rows.proofs.Rows.{length-in}
-use Rattle.recall_ends.specs.Does.{all}
+use Rattle.std.proofs.lemmas.List.{take_more_set}
+use Rattle.recall_rows.specs.Rows.{width, row, verdicts_in, all, Fits}
+use Rattle.recall_rows.proofs.Rows.{length-all, of-more}
 
 -- ## Lists
 
@@ -74,20 +73,10 @@ all-rows n m h =
     ∙ sym (in-front n l (drop (n * width) m) (omega (arith, e)))
     ∙ ap (verdicts_in n) (take-append-drop (n * width) m)
 
-in-more : (n : ℕ) (m : List ℕ) → verdicts_in (suc n) m ≡ verdicts_in n m ++ (row (drop (n * width) m) ∷ [])
-unfolding verdicts_in
-in-more zero m = refl
-in-more (suc n) m =
-    let e : width + n * width ≡ suc n * width = omega arith in
-    ap (λ l. row m ∷ l) (in-more n (drop width m))
-    ∙ ap (λ l. row m ∷ (verdicts_in n (drop width m) ++ (row l ∷ []))) (drop-drop (n * width) width m ∙ ap (λ (j : ℕ). drop j m) e)
-
 -- v is stored behind the last of n rows
-pub all_more : (n : ℕ) (m k : List ℕ) (v : Verdict) → Fits (n + 1) m → Fits (n + 1) k
-    → verdicts_in (n + 1) k ≡ set (verdicts_in (n + 1) m) n v
+pub all_more : (n : ℕ) (m k : List ℕ) (v : Verdict) → Fits (n + 1) m → Fits (n + 1) k → all k ≡ set (all m) n v
     → all (take ((n + 1) * width) k) ≡ all (take (n * width) m) ++ (v ∷ [])
 all_more n m k v h g e =
-    all-rows (n + 1) k g ∙ e
-    ∙ ap (λ l. set l n v) (ap (λ (j : ℕ). verdicts_in j m) (add-one n) ∙ in-more n m)
-    ∙ set_at (verdicts_in n m) (row (drop (n * width) m)) [] v n (length-in n m)
-    ∙ ap (λ l. l ++ (v ∷ [])) (sym (all-rows n m (omega arith)))
+    all-rows (n + 1) k g ∙ of-more (n + 1) k g ∙ ap (take (n + 1)) e
+    ∙ take_more_set (all m) n v (omega (arith, length-all m))
+    ∙ ap (λ l. l ++ (v ∷ [])) (sym (all-rows n m (omega arith) ∙ of-more n m (omega arith)))

@@ -6,6 +6,8 @@ use native.Mathlib.Omega.{arith}
 use lib.ListN.{length, take, drop, length-append, length-drop}
 use lib.Seq.{append_snoc, drop-drop}
 use borrow.Rule.Slice.PartMut.{mid_of}
+use Rattle.std.specs.Prelude.{Option, None, Some}
+use Rattle.std.proofs.lemmas.Option.{same_Some}
 use Rattle.rules.specs.Lists.{All}
 use Rattle.rules.specs.Follows.Wires.{Byte}
 use Rattle.rules.specs.Bytes.{value, part, message_size}
@@ -19,7 +21,7 @@ use Rattle.recall_rows.specs.Rows.{width, Fits}
 use Rattle.recall_answers.specs.declared.Carried.{Carried}
 use Rattle.recall_answers.specs.Replies.{Placed}
 use Rattle.recall_log.specs.declared.Record.{Record}
-use Rattle.recall_log.specs.declared.Record.TheVariants.{Open, Close, Message, Tick, None}
+use Rattle.recall_log.specs.declared.Record.TheVariants.{Open, Close, Message, Tick}
 use Rattle.recall_log.specs.Log.{kept_calls, most_calls}
 use Rattle.recall_log.specs.Kept.{record_of, record_in, call_of, span_of}
 use Rattle.recall_log.proofs.Firsts.{part-take, first}
@@ -31,11 +33,11 @@ use Rattle.recall_pass.proofs.Laws.{steady-begun, steady-call, steady-ready, pas
 -- ## One record
 
 -- the MessageSize of a message's record
-abbrev Says : List ℕ → Record → Type 0
-Says l (Open c) = Unit {0}
-Says l (Close c) = Unit {0}
-Says l (Message c n) = n ≡ message_size (drop 2 l)
-Says l (Tick seconds micros) = Unit {0}
+abbrev Says : List ℕ → Option Record → Type 0
+Says l (Some (Open c)) = Unit {0}
+Says l (Some (Close c)) = Unit {0}
+Says l (Some (Message c n)) = n ≡ message_size (drop 2 l)
+Says l (Some (Tick seconds micros)) = Unit {0}
 Says l None = Unit {0}
 
 says : (l : List ℕ) → Says l (record_in l)
@@ -47,10 +49,12 @@ says l = go (next l) refl
     go (calls (closes c room) m) e = tt
     go (calls (messages c k loans) m) e =
         let f = first l e in
-        let made = f.made in
+        let kind : Message c (message_size k) ≡ f.kind = same_Some _ _ f.kind_is in
+        let span : 10 + message_size k ≡ f.size = ap span_of kind ∙ f.span in
+        let made : messages c (part 2 (8 + message_size k) l) card_loans ≡ messages c k loans = ap (λ x. call_of x l) kind ∙ f.made in
         let p : part 2 (8 + message_size k) l ≡ k = cc in
         ap (λ (x : List ℕ). message_size x) (sym p)
-        ∙ ap value (part-take 2 2 (8 + message_size k) (drop 2 l) (omega arith) (omega (arith, f.there, f.span, length-drop 2 l)))
+        ∙ ap value (part-take 2 2 (8 + message_size k) (drop 2 l) (omega arith) (omega (arith, f.there, span, length-drop 2 l)))
     go (calls (ticks seconds micros room) m) e = tt
     go (calls (moves until room) m) e = tt
     go (calls (cues section pts seconds micros room) m) e = tt
@@ -58,16 +62,17 @@ says l = go (next l) refl
     go stops e = tt
 
 -- the record x stands at the place `at`
-module _ (log : List ℕ) (at : ℕ) {x : Record} (is : x ≡ record_in (drop at log)) where
+module _ (log : List ℕ) (at : ℕ) {x : Record} (is : record_in (drop at log) ≡ Some x) where
   module _ {c n : ℕ} (e : x ≡ Message c n) where
     size_is : n ≡ message_size (drop (at + 2) log)
-    size_is = subst (Says (drop at log)) (sym is ∙ e) (says (drop at log)) ∙ ap (λ (l : List ℕ). message_size l) (drop-drop 2 at log)
+    size_is = subst (Says (drop at log)) (is ∙ ap (λ y. Some y) e) (says (drop at log))
+        ∙ ap (λ (l : List ℕ). message_size l) (drop-drop 2 at log)
 
     -- the message ends within the log
-    pub message-within : 0 < span_of x → at ≤ length log → at + 2 + (8 + message_size (drop (at + 2) log)) ≤ length log
+    pub message-within : at ≤ length log → at + 2 + (8 + message_size (drop (at + 2) log)) ≤ length log
     unfolding span_of
-    message-within z h =
-        omega (arith, (walk-within log at h (is ∙ ap record_in (sym (behind at log))) z).1, ap span_of e, size_is)
+    message-within h =
+        omega (arith, (walk-within log at h (ap record_in (behind at log) ∙ is)).1, ap span_of e, size_is)
 
   module _ (h : Carried) (m : List ℕ) (r : Carried) (k : List ℕ) where
     abbrev Led : Record → Type 0
@@ -101,11 +106,6 @@ module _ (log : List ℕ) (at : ℕ) {x : Record} (is : x ≡ record_in (drop at
         (subst (λ (y : List ℕ). Leads log h (call (messages c y card_loans) (pass_in log h m)) r k)
         (ap₂ (λ (j : ℕ) (y : List ℕ). take (8 + j) y) (sym (size_is e)) (sym (drop-drop 2 at log))) g)
 
--- no call stands there
-pub none-there : {x : Record} → x ≡ None → 0 < span_of x → ⊥
-unfolding span_of
-none-there e z = omega (arith, z, ap span_of e)
-
 -- ## From call to call
 
 -- `before`: the calls before the place `at`
@@ -132,9 +132,7 @@ walking-first log m b =
       placed = a.placed;
     }
 
--- r: the record there, of k bytes
-module _ {log : List ℕ} {h : Carried} {m : List ℕ} {at : ℕ} (w : Walking log h m at) {r : Record}
-    (e : r ≡ record_in (mid_of at (length log - at) log)) {k : ℕ} (f : k ≡ span_of r)
+module _ {log : List ℕ} {h : Carried} {m : List ℕ} {at : ℕ} (w : Walking log h m at)
     (most : length (kept_calls log) < most_calls) (wide : most_calls * width ≤ length m) where
   counted : length (kept_calls log) ≡ length w.before + length (kept_calls (drop at log))
   counted = ap length w.calls ∙ length-append w.before (kept_calls (drop at log))
@@ -145,10 +143,10 @@ module _ {log : List ℕ} {h : Carried} {m : List ℕ} {at : ℕ} (w : Walking l
   pub walking-ready : Ready h m
   walking-ready = steady-ready log h m (omega (arith, walking-fits)) w.steady
 
-  pub walking-end : k ≡ 0 → Passed log h m
+  pub walking-end : record_in (mid_of at (length log - at) log) ≡ None → Passed log h m
   walking-end z =
       let a : w.before ≡ kept_calls log = sym (append-nil w.before)
-      ∙ ap (λ (y : List Call). w.before ++ y) (sym (walk_end log at w.there e (sym f ∙ z)).0) ∙ sym w.calls in
+      ∙ ap (λ (y : List Call). w.before ++ y) (sym (walk_end log at z).0) ∙ sym w.calls in
       record {
         pass = w.pass ∙ ap (λ (y : List Call). passed y (begun card_name)) a;
         steady = w.steady;
@@ -156,15 +154,10 @@ module _ {log : List ℕ} {h : Carried} {m : List ℕ} {at : ℕ} (w : Walking l
         placed = w.placed;
       }
 
-  module _ (z : k ≡ 0 → ⊥) where
-    some : 0 < span_of r
-    some = omega (arith, z, f)
-
-    pub walking-record : (r ≡ record_in (drop at log)) × (0 < span_of r) × (at ≤ length log)
-    walking-record = (e ∙ ap record_in (behind at log), some, w.there)
-
-    pub walking-within : (2 ≤ k) × (at + k ≤ length log)
-    walking-within = let y = walk-within log at w.there e some in (omega (arith, y.0, f), omega (arith, y.1, f))
+  -- r: the record there, of k bytes
+  module _ {r : Record} (e : record_in (mid_of at (length log - at) log) ≡ Some r) where
+    pub walking-record : (record_in (drop at log) ≡ Some r) × (at ≤ length log)
+    walking-record = (ap record_in (sym (behind at log)) ∙ e, w.there)
 
     abbrev c : Call
     c = call_of r (drop at log)
@@ -173,19 +166,23 @@ module _ {log : List ℕ} {h : Carried} {m : List ℕ} {at : ℕ} (w : Walking l
     behind-it = kept_calls (drop (at + span_of r) log)
 
     more : kept_calls log ≡ w.before ++ (c ∷ behind-it)
-    more = w.calls ∙ ap (λ (y : List Call). w.before ++ y) (walk-calls log at w.there e some)
+    more = w.calls ∙ ap (λ (y : List Call). w.before ++ y) (walk-calls log at w.there e)
 
-    pub walking-next : All Byte log → {h' : Carried} {m' : List ℕ} → Leads log h (call c (pass_in log h m)) h' m'
-        → Walking log h' m' (at + k)
-    walking-next b {h'} {m'} l =
-        let wired = (all-parts Wired w.before (c ∷ behind-it) (subst (All Wired) more (any-log log b).0)).1.0 in
-        subst (λ (i : ℕ). Walking log h' m' (at + i)) (sym f)
-        (record {
-          before = w.before ++ (c ∷ []);
-          there = (walk-within log at w.there e some).1;
-          calls = more ∙ sym (append_snoc w.before c behind-it);
-          pass = l.pass ∙ ap (λ (s : Pass). (call c s).pass) w.pass ∙ sym (passed-last w.before c (begun card_name));
-          steady = subst Steady (sym l.pass) (steady-call c wired w.steady);
-          few = omega (arith, l.few, w.few, length-append w.before (c ∷ []));
-          placed = l.placed w.placed;
-        })
+    module _ {k : ℕ} (f : k ≡ span_of r) where
+      pub walking-within : (2 ≤ k) × (at + k ≤ length log)
+      walking-within = let y = walk-within log at w.there e in (omega (arith, y.0, f), omega (arith, y.1, f))
+
+      pub walking-next : All Byte log → {h' : Carried} {m' : List ℕ} → Leads log h (call c (pass_in log h m)) h' m'
+          → Walking log h' m' (at + k)
+      walking-next b {h'} {m'} l =
+          let wired = (all-parts Wired w.before (c ∷ behind-it) (subst (All Wired) more (any-log log b).0)).1.0 in
+          subst (λ (i : ℕ). Walking log h' m' (at + i)) (sym f)
+          (record {
+            before = w.before ++ (c ∷ []);
+            there = (walk-within log at w.there e).1;
+            calls = more ∙ sym (append_snoc w.before c behind-it);
+            pass = l.pass ∙ ap (λ (s : Pass). (call c s).pass) w.pass ∙ sym (passed-last w.before c (begun card_name));
+            steady = subst Steady (sym l.pass) (steady-call c wired w.steady);
+            few = omega (arith, l.few, w.few, length-append w.before (c ∷ []));
+            placed = l.placed w.placed;
+          })

@@ -1,8 +1,9 @@
 -- A pass over the calls in a log: what is carried from call to call stands for 01's pass over verdicts.
-use Rattle.std.specs.Prelude.{◌≡◌, Bool, cond, List, ℕ, ◌+◌, ◌*◌, ◌≤◌, ◌<◌, take, set}
+use Rattle.std.specs.Prelude.{Option, Result, Ok, Err, ◌≡◌, Bool, cond, List, ℕ, ◌+◌, ◌*◌, ◌≤◌, ◌<◌, take, set}
+use Rattle.rules.specs.declared.Link.{Link}
+use Rattle.rules.specs.declared.Refusal.{Refusal}
 use Rattle.rules.specs.declared.Refusal.TheVariants.{NoConnection, NoRoom, NotOpen, LongSection}
-use Rattle.rules.specs.declared.Framing.{Framing}
-use Rattle.rules.specs.declared.Framing.TheVariants.{Unframed}
+use Rattle.rules.specs.declared.Header.{Header}
 use Rattle.rules.specs.Lists.{All}
 use Rattle.rules.specs.Hardware.{hardware_in}
 use Rattle.rules.specs.State.{Queue, Splicer}
@@ -21,7 +22,8 @@ use Rattle.recall_answers.specs.declared.Effect.{Effect}
 use Rattle.recall_answers.specs.declared.Effect.TheVariants.{Nothing, Joins, Enters, Configures}
 use Rattle.recall_answers.specs.Replies.{pass_of, hardwares, Placed, effected, spoken, Left}
 use Rattle.recall_log.specs.Log.{kept_calls}
-use Rattle.recall_log.specs.Kept.{reply_of}
+use Rattle.recall_log.specs.declared.Refused.TheVariants.{Rule}
+use Rattle.recall_log.specs.Kept.{Reply, reply_of}
 use Rattle.recall_pass.specs.declared.Played.{Played}
 use Rattle.recall_pass.specs.declared.Heard.{Heard}
 
@@ -36,11 +38,11 @@ abbrev pub pass_in : (l : List ℕ) → Carried → (m : List ℕ) → Pass
 pass_in l h m = pass_of (hardwares l h) h (rows_of h m)
 
 -- connection c is that from now on
-abbrev pub relinked : (c code : ℕ) → Carried → Carried
+abbrev pub relinked : (c : ℕ) → Link → Carried → Carried
 relinked c k h = record { clock = h.clock; links = set h.links c k; places = h.places; rows = h.rows }
 
 -- its Hardware_Config stands there from now on
-abbrev pub replaced : (c place : ℕ) → Carried → Carried
+abbrev pub replaced : (c : ℕ) (place : Option ℕ) → Carried → Carried
 replaced c p h = record { clock = h.clock; links = h.links; places = set h.places c p; rows = h.rows }
 
 -- before the first call, whatever the log and the words hold
@@ -67,30 +69,47 @@ pub record Leads (l : List ℕ) (h : Carried) (c : Called) (r : Carried) (k : Li
   pub few : r.rows ≤ h.rows + 1
   pub placed : All (Placed l) h.places → All (Placed l) r.places
 
+-- what is carried on: a refusal "changes no state"
+unfoldable pub carried_by : Carried → Result Played Refusal → Carried
+carried_by h (Ok p) = p.carried
+carried_by h (Err n) = h
+
+-- what is answered
+unfoldable pub replied : Result Played Refusal → Reply
+replied (Ok p) = Ok p.did
+replied (Err n) = Err (Rule n)
+
 -- and its answer is given; e, o: the buffer before and after it
-pub record Plays (l : List ℕ) (h : Carried) (c : Called) (e : List ℕ) (p : Played) (k o : List ℕ) : Type 0 where
-  pub leads : Leads l h c p.carried k
-  pub reply : p.reply ≡ reply_of c.answer c.moved
+pub record Plays (l : List ℕ) (h : Carried) (c : Called) (e : List ℕ) (p : Result Played Refusal) (k o : List ℕ) : Type 0 where
+  pub leads : Leads l h c (carried_by h p) k
+  pub reply : replied p ≡ reply_of c.answer c.moved
   pub buffer : o ≡ buffer_after c.answer e
 
 -- whatever stands in the log
-abbrev pub PlaysAny : (Pass → Called) → Carried → (m e : List ℕ) → Played → (k o : List ℕ) → Type 0
+abbrev pub PlaysAny : (Pass → Called) → Carried → (m e : List ℕ) → Result Played Refusal → (k o : List ℕ) → Type 0
 PlaysAny f h m e p k o = (l : List ℕ) → Plays l h (f (pass_in l h m)) e p k o
 
 -- a call that looks at no verdict, whatever the words hold
-abbrev pub PlaysOver : (Pass → Called) → Carried → Played → Type 0
+abbrev pub PlaysOver : (Pass → Called) → Carried → Result Played Refusal → Type 0
 PlaysOver f h p = (m e : List ℕ) → Fits h.rows m → PlaysAny f h m e p m e
 
+-- "close 1, 2, 7", "message 1, 2, 7"
+unfoldable pub tested : (c room : ℕ) → Pass → Result (Unit {0}) Refusal
+tested c room s = cond (no_connection c) (Err NoConnection) (cond (no_room room) (Err NoRoom) (cond (not_open c s) (Err NotOpen) (Ok tt)))
+
 -- "message 1, 2, 7", 02's 10, "5 (header), 4, 5 (body)"; long: whether a section is
-unfoldable pub framed : (c : ℕ) (l : List ℕ) (room : ℕ) (long : Bool) → Pass → Framing
+unfoldable pub framed : (c : ℕ) (l : List ℕ) (room : ℕ) (long : Bool) → Pass → Result Header Refusal
 framed c l room long s =
-    cond (no_connection c) (Unframed NoConnection)
-    (cond (no_room room) (Unframed NoRoom)
-    (cond (not_open c s) (Unframed NotOpen)
-    (cond long (Unframed LongSection) (framing l))))
+    cond (no_connection c) (Err NoConnection)
+    (cond (no_room room) (Err NoRoom)
+    (cond (not_open c s) (Err NotOpen)
+    (cond long (Err LongSection) (framing l))))
 
 -- by the connections alone
-abbrev pub FramesAny : (c : ℕ) (l : List ℕ) (room : ℕ) (long : Bool) → Carried → Framing → Type 0
+abbrev pub TestsAny : (c room : ℕ) → Carried → Result (Unit {0}) Refusal → Type 0
+TestsAny c room h r = (hardware : List (List ℕ)) (m : List ℕ) → r ≡ tested c room (pass_of hardware h m)
+
+abbrev pub FramesAny : (c : ℕ) (l : List ℕ) (room : ℕ) (long : Bool) → Carried → Result Header Refusal → Type 0
 FramesAny c l room long h r = (hardware : List (List ℕ)) (m : List ℕ) → r ≡ framed c l room long (pass_of hardware h m)
 
 -- ## A message

@@ -1,8 +1,9 @@
 // What is carried from call to call, the four calls played onto it, and the pass over a log.
 // At each call the kept calls are gone through once, from the first.
+// What stands in the first engine too stays twice: the second engine has rules of its own (02, CR 12).
 #![tactic(auto)]
 
-ghost use Rattle.std.specs.Prelude.{◌≡◌, ◌+◌, ◌*◌, ◌≤◌, ◌<◌, length, drop};
+ghost use Rattle.std.specs.Prelude.{Some, ◌≡◌, ◌+◌, ◌*◌, ◌≤◌, ◌<◌, length, drop};
 ghost use Rattle.rules.specs.Bytes.{part, message_size};
 ghost use Rattle.rules.specs.Calls.{messages};
 ghost use Rattle.rules.specs.Card.{card_loans, card_room};
@@ -11,27 +12,26 @@ ghost use Rattle.recall_rules.specs.Calls.{open_call, close_call, tick_call, cal
 ghost use Rattle.recall_rows.specs.Rows.{width, Fits};
 ghost use Rattle.recall_ends.specs.Does.{all};
 ghost use Rattle.recall_log.specs.Log.{kept_calls, most_calls};
-ghost use Rattle.recall_log.specs.Kept.{record_in, call_of, span_of};
-ghost use Rattle.recall_log.specs.declared.Reply.TheVariants.{Refused};
-ghost use Rattle.recall_pass.specs.Passes.{rows_of, pass_in, relinked, replaced, BeginsAny, Ready, Leads, PlaysAny, PlaysOver};
-ghost use Rattle.recall_pass.specs.Passes.{FramesAny, SettlesAny, HearsAny, Passed};
+ghost use Rattle.recall_log.specs.Kept.{record_in, call_of};
+ghost use Rattle.recall_pass.specs.Passes.{rows_of, pass_in, relinked, replaced, carried_by, BeginsAny, Ready, Leads, PlaysAny, PlaysOver};
+ghost use Rattle.recall_pass.specs.Passes.{TestsAny, FramesAny, SettlesAny, HearsAny, Passed};
 
 use reading::numbers::number2;
 use recall_answers::{Carried, Effect};
-use recall_log::{Record, Reply};
+use recall_log::Record;
 use recall_rows::WIDTH;
 use recall_rules::{Phase, Verdict};
 use reply::Did;
-use rules::{Framing, Link, Ninths, Refusal};
+use rules::{Header, Link, Ninths, Refusal};
 
 // The words of 256 rows: a call of the log has one verdict at most, and so has the present call.
 pub const WORDS: usize = 3328;
 
-// After a call: what is carried on, and what is answered.
+// After a good call: what is carried on, and what it did.
 #[derive(Clone, Copy)]
 pub struct Played {
     pub carried: Carried,
-    pub reply: Reply,
+    pub did: Did,
 }
 
 // After a message: what is carried on, how far the output is written, 02's CR 11, and what is left to do.
@@ -49,141 +49,136 @@ fn begun() -> Carried
 {
     Carried {
         clock: Ninths(0),
-        links: [0; 4],
-        places: [0; 4],
+        links: [Link::Closed; 4],
+        places: [None; 4],
         rows: 0,
     }
 }
 
 // What connection conn is from now on.
-fn linked(h: Carried, conn: u32, code: u64) -> Carried
+// Two, this and `placed`, since they set different fields: what they share is a copy and an assignment.
+fn linked(h: Carried, conn: u32, link: Link) -> Carried
     requires { conn ≤ 3 }
-    ensures { result ≡ relinked conn code h }
+    ensures { result ≡ relinked conn link h }
 {
-    let c = conn as usize;
     let mut next = h;
-    next.links[c] = code;
+    next.links[conn as usize] = link;
     next
 }
 
 // Where in the log its Hardware_Config stands from now on.
-fn placed(h: Carried, conn: u32, place: usize) -> Carried
+fn placed(h: Carried, conn: u32, place: Option<usize>) -> Carried
     requires { conn ≤ 3 }
     ensures { result ≡ replaced conn place h }
 {
-    let c = conn as usize;
     let mut next = h;
-    next.places[c] = place;
+    next.places[conn as usize] = place;
     next
 }
 
-fn refused(h: Carried, n: Refusal) -> Played
-    ensures { result ≡ record { carried = h; reply = Refused n } }
+// What is carried on after a call: a refusal changes nothing.
+fn carried_by(h: Carried, p: Result<Played, Refusal>) -> Carried
+    ensures { result ≡ carried_by h p }
 {
-    Played {
-        carried: h,
-        reply: Reply::Refused(n),
+    match p {
+        Ok(p) => p.carried,
+        Err(_) => h,
     }
 }
 
 // Open: 1, 6.
-pub fn open(h: Carried, conn: u32) -> Played
+pub fn open(h: Carried, conn: u32) -> Result<Played, Refusal>
     ensures { PlaysOver (open_call conn) h result }
 {
     if 3 < conn {
-        return refused(h, Refusal::NoConnection);
+        return Err(Refusal::NoConnection);
     }
-    let link = recall_answers::link_of(h, conn);
-    let Link::Closed = link else {
-        return refused(h, Refusal::AlreadyOpen);
+    let Link::Closed = h.links[conn as usize] else {
+        return Err(Refusal::AlreadyOpen);
     };
-    Played {
-        carried: linked(h, conn, 1),
-        reply: Reply::Done(Did {
-            consumed: 0,
-            written: 0,
-            moved: 0,
-        }),
+    Ok(Played {
+        carried: linked(h, conn, Link::Opened),
+        did: Did::unmoved(0),
+    })
+}
+
+// 1, 2, 7: the tests that a message and a close begin with.
+fn tested(h: Carried, conn: u32, room: usize) -> Result<(), Refusal>
+    ensures { TestsAny conn room h result }
+{
+    if 3 < conn {
+        return Err(Refusal::NoConnection);
     }
+    if room < 4096 {
+        return Err(Refusal::NoRoom);
+    }
+    if let Link::Closed = h.links[conn as usize] {
+        return Err(Refusal::NotOpen);
+    }
+    Ok(())
 }
 
 // 1, 2, 7, 02's 10, then 5 (header), 4, 5 (body): a message's tests, or only those before 10 with a whole message.
-pub fn framed(h: Carried, conn: u32, l: &[u8], room: usize, is_long: bool) -> Framing
+pub fn framed(
+    h: Carried,
+    conn: u32,
+    l: &[u8],
+    room: usize,
+    is_long: bool,
+) -> Result<Header, Refusal>
     ensures { FramesAny conn l.now room is_long h result }
 {
-    if 3 < conn {
-        return Framing::Unframed(Refusal::NoConnection);
-    }
-    if room < 4096 {
-        return Framing::Unframed(Refusal::NoRoom);
-    }
-    let link = recall_answers::link_of(h, conn);
-    if let Link::Closed = link {
-        return Framing::Unframed(Refusal::NotOpen);
-    }
+    tested(h, conn, room)?;
     if is_long {
-        return Framing::Unframed(Refusal::LongSection);
+        return Err(Refusal::LongSection);
     }
     reading::frame(l)
 }
 
 // Close: 1, 2, 7. 02, CR 6: "close forgets it".
-pub fn close(m: &mut [u64], h: Carried, conn: u32, out: &mut [u8]) -> Played
+pub fn close(m: &mut [u64], h: Carried, conn: u32, out: &mut [u8]) -> Result<Played, Refusal>
     requires { Ready h m.old }
     ensures { PlaysAny (close_call conn (length out.old)) h m.old out.old result
         m.new out.new }
 {
-    if 3 < conn {
-        return refused(h, Refusal::NoConnection);
-    }
-    if out.len() < 4096 {
-        return refused(h, Refusal::NoRoom);
-    }
-    let link = recall_answers::link_of(h, conn);
-    if let Link::Closed = link {
-        return refused(h, Refusal::NotOpen);
-    }
+    tested(h, conn, out.len())?;
     let end = h.rows * WIDTH;
     let len = recall_ends::close(&mut m[..end], conn as u64, &mut *out, 0);
-    Played {
-        carried: placed(linked(h, conn, 0), conn, 0),
-        reply: Reply::Done(Did {
-            consumed: 0,
-            written: len,
-            moved: 0,
-        }),
-    }
+    Ok(Played {
+        carried: placed(linked(h, conn, Link::Closed), conn, None),
+        did: Did::unmoved(len),
+    })
 }
 
 // Tick: 2, 8, 3.
-pub fn tick(m: &mut [u64], h: Carried, seconds: u32, micros: u32, out: &mut [u8]) -> Played
+pub fn tick(
+    m: &mut [u64],
+    h: Carried,
+    seconds: u32,
+    micros: u32,
+    out: &mut [u8],
+) -> Result<Played, Refusal>
     requires { Ready h m.old }
     ensures { PlaysAny (tick_call seconds micros (length out.old)) h m.old out.old result
         m.new out.new }
 {
     if out.len() < 4096 {
-        return refused(h, Refusal::NoRoom);
+        return Err(Refusal::NoRoom);
     }
     if 999999 < micros {
-        return refused(h, Refusal::BadMicros);
+        return Err(Refusal::BadMicros);
     }
     let until = units::from_micros(units::time_of(seconds, micros));
     let clock = h.clock;
     if until.0 < clock.0 {
-        return refused(h, Refusal::ClockBack);
+        return Err(Refusal::ClockBack);
     }
     let end = h.rows * WIDTH;
     let len = recall_instants::run(&mut m[..end], clock, until, &mut *out);
-    let mut next = h;
-    next.clock = until;
-    Played {
-        carried: next,
-        reply: Reply::Done(Did {
-            consumed: 0,
-            written: len,
-            moved: 0,
-        }),
-    }
+    Ok(Played {
+        carried: Carried { clock: until, ..h },
+        did: Did::unmoved(len),
+    })
 }
 
 // What is left to do of an answer, done: a new session stands in the row behind the last; an initialised connection.
@@ -197,20 +192,16 @@ fn settle(m: &mut [u64], h: Carried, conn: u32, effect: Effect) -> Carried
             let n = h.rows;
             recall_rows::store(
                 &mut *m,
-                n + 1,
                 n,
                 Verdict {
                     phase: Phase::Waits,
                     session: x,
                 },
             );
-            let mut next = h;
-            next.rows = n + 1;
-            next
+            Carried { rows: n + 1, ..h }
         }
-        Effect::Enters => linked(h, conn, 2),
-        Effect::Nothing => h,
-        Effect::Configures => h,
+        Effect::Enters => linked(h, conn, Link::Initialised),
+        Effect::Nothing | Effect::Configures => h,
     }
 }
 
@@ -230,7 +221,7 @@ pub fn hear(m: &mut [u64], h: Carried, conn: u32, id: u16, d: &[u8], out: &mut [
         carried: next,
         len: g.len,
         moved: g.moved,
-        effect: effect,
+        effect,
     }
 }
 
@@ -239,12 +230,11 @@ pub fn feed(m: &[u64], h: Carried) -> usize
     requires { Fits h.rows m.now }
     ensures { result ≡ air_feed (all (rows_of h m.now)) }
 {
-    let n = h.rows;
-    let end = n * WIDTH;
-    if recall_instants::on_air(&m[..end]) < n {
-        return 1;
+    let end = h.rows * WIDTH;
+    match recall_instants::on_air(&m[..end]) {
+        Some(_) => 1,
+        None => 0,
     }
-    0
 }
 
 // The kept message that stands in the log at `from`; the one of an Init_Request that got 100 has the Hardware_Config from now on.
@@ -258,7 +248,7 @@ fn play_message(
 ) -> Carried
     requires ready { Ready h m.old }
     requires fits { Fits (h.rows + 1) m.old }
-    requires from_nonzero { (0 < from) × (from + (8 + message_size (drop from log.now)) ≤ length log.now) }
+    requires from_in_bounds { from + (8 + message_size (drop from log.now)) ≤ length log.now }
     requires scratch_len { length scratch.old ≡ card_room }
     ensures { Leads log.now h
         (call (messages conn (part from (8 + message_size (drop from log.now)) log.now) card_loans)
@@ -267,21 +257,19 @@ fn play_message(
     let size = number2(&log[from..], 2);
     let end = from + 8 + size as usize;
     let l = &log[from..end];
-    let f = framed(h, conn, l, scratch.len(), false);
-    let Framing::Framed(id, n) = f else {
+    let Ok(header) = framed(h, conn, l, scratch.len(), false) else {
         return h;
     };
     let g = hear(
         &mut *m,
         h,
         conn,
-        id,
-        reading::data_of(l, n as usize),
+        header.id,
+        reading::data_of(l, header.size as usize),
         &mut *scratch,
     );
-    let effect = g.effect;
-    if let Effect::Enters = effect {
-        return placed(g.carried, conn, from);
+    if let Effect::Enters = g.effect {
+        return placed(g.carried, conn, Some(from));
     }
     g.carried
 }
@@ -297,26 +285,18 @@ fn play(
 ) -> Carried
     requires ready { Ready h m.old }
     requires fits { Fits (h.rows + 1) m.old }
-    requires record_value { («record» ≡ record_in (drop at log.now)) × (0 < span_of «record») × (at ≤ length log.now) }
+    requires record_value { (record_in (drop at log.now) ≡ Some «record») × (at ≤ length log.now) }
     requires scratch_len { length scratch.old ≡ card_room }
     ensures { Leads log.now h (call (call_of «record» (drop at log.now)) (pass_in log.now h m.old)) result
         m.new }
 {
     match record {
-        Record::Open(c) => {
-            let p = open(h, c as u32);
-            p.carried
-        }
-        Record::Close(c) => {
-            let p = close(&mut *m, h, c as u32, &mut *scratch);
-            p.carried
-        }
+        Record::Open(c) => carried_by(h, open(h, c as u32)),
+        Record::Close(c) => carried_by(h, close(&mut *m, h, c as u32, &mut *scratch)),
         Record::Message(c, _) => play_message(log, &mut *m, h, c as u32, at + 2, &mut *scratch),
         Record::Tick(seconds, micros) => {
-            let p = tick(&mut *m, h, seconds, micros, &mut *scratch);
-            p.carried
+            carried_by(h, tick(&mut *m, h, seconds, micros, &mut *scratch))
         }
-        Record::None => h,
     }
 }
 
@@ -329,13 +309,9 @@ pub fn pass(log: &[u8], m: &mut [u64]) -> Carried
     let mut scratch = [0u8; 4096];
     let mut h = begun();
     let mut at = 0;
-    loop {
-        let record = recall_log::record_at(&log[at..]);
-        let k = recall_log::span_of(record);
-        if k == 0 {
-            return h;
-        }
+    while let Some(record) = recall_log::record_at(&log[at..]) {
         h = play(log, &mut *m, h, at, record, &mut scratch);
-        at += k;
+        at += recall_log::span_of(record);
     }
+    h
 }

@@ -3,12 +3,14 @@
 use mathlib.Core.Path.{◌≡◌, refl, sym, ap, ap₂, subst, ◌∙◌}
 use mathlib.Core.Bool.{Bool, true, false, cond}
 use mathlib.Core.List.{List, [], ◌∷◌, ◌++◌, append_cancel_right}
-use Prim.Native.Nat.{ℕ, ◌+◌, ◌-◌, ◌/◌, ◌≤◌}
+use Prim.Native.Nat.{ℕ, ◌+◌, ◌-◌, ◌≤◌}
 use native.Mathlib.Omega.{arith}
 use lib.Dec.{eqb}
 use lib.ListN.{length}
 use borrow.Author.Tests.{eq-eqb, ne_eqb}
 use borrow.Rule.Slice.PartMut.{put_mid, mid_of}
+use Rattle.std.specs.declared.option.Option.{Option}
+use Rattle.std.specs.declared.option.Option.TheVariants.{Some, None}
 use Rattle.rules.specs.declared.Session.{Session}
 use Rattle.rules.specs.declared.Request.{Request}
 use Rattle.rules.specs.Lists.{count}
@@ -23,10 +25,8 @@ use Rattle.recall_rules.specs.declared.Verdict.{Verdict}
 use Rattle.recall_rules.specs.Verdicts.{is_waiting, verdict, standing}
 use Rattle.recall_rules.specs.Work.{Turn, writes, and_then, evicted, aborted, holds, start_of, requested, splice_result, accepted, Spliced}
 use Rattle.recall_rules.specs.Work.{later, grants, declines, answer_splice, answer_abort}
-use Rattle.recall_rows.specs.Rows.{width, verdicts_in}
 use Rattle.recall_ends.specs.Does.{all, Tells, Turns, Room, Does}
 use Rattle.recall_ends.proofs.Laws.{tells_first, tells-part}
-use Rattle.recall_instants.proofs.Words.{as-all}
 use Rattle.recall_instants.proofs.Starts.{first-room, next-room, both-done, as_room, as-done}
 use Rattle.recall_requests.specs.declared.Given.{Given}
 use Rattle.recall_requests.specs.Admits.{admitted, joined, spliced, Admits, Splices}
@@ -62,11 +62,9 @@ module _ (s : Session) (m e : List ℕ) (room : Room (admitted s) 0 m e) where
         both-done (evicts (all m)) (grant s) parts e 0 room d
         (record { holds = refl; tells = tells-part (omega (arith, grant-room z)) w })
 
-    pub later-is : (n x : ℕ) → n ≡ length k / width → x ≡ count (starts_after s.start.0) (standing is_waiting (verdicts_in n k))
-        → x ≡ later s (all m)
+    pub later-is : (x : ℕ) → x ≡ count (starts_after s.start.0) (standing is_waiting (all k)) → x ≡ later s (all m)
     unfolding later
-    later-is n x rows f = f ∙ ap (λ (l : List Verdict). count (starts_after s.start.0) (standing is_waiting l))
-        (as-all k n rows ∙ d.holds)
+    later-is x f = f ∙ ap (λ (l : List Verdict). count (starts_after s.start.0) (standing is_waiting l)) d.holds
 
 -- but for the new verdict
 accepted-written : (s : Session) (l : List Verdict) → (admitted s l).written ≡ (accepted s l).written
@@ -124,15 +122,15 @@ module _ (clock c : ℕ) (r : Request) (m : List ℕ) {t n : ℕ} {new : Session
         )
 
   module _ {e o : List ℕ} where
-    pub splice-accepted : {g : Given} {k : List ℕ} → n ≡ 100 → Admits new m e g k o → g.accepted ≡ true → g.new ≡ new
-        → Splices clock c r m e g k o
-    splice-accepted {g} {k} h a y z =
+    pub splice-accepted : {g : Given} {k : List ℕ} → n ≡ 100 → Admits new m e g k o → g.accepted ≡ Some new → Splices clock c r m e g k o
+    splice-accepted {g} {k} h a y =
         let back = sym (granted h) in
         record {
-          new = z ∙ asked;
-          accepted = y ∙ ap (λ (b : Spliced). b.accepted) back;
+          accepted =
+              y ∙ ap Some asked
+              ∙ ap (λ (b : Spliced). cond b.accepted (Some (requested c r (all m))) None) back;
           holds =
-              ap₂ (λ (b : Bool) (s : Session). joined b s (all k)) y z
+              ap (λ (s : Option Session). joined s (all k)) y
               ∙ ap (λ (v : List Verdict). v ++ (verdict Waits new ∷ [])) a.does.holds
               ∙ accepted-verdicts new (all m)
               ∙ ap (λ (b : Spliced). b.turn.verdicts) back;
@@ -143,12 +141,11 @@ module _ (clock c : ℕ) (r : Request) (m : List ℕ) {t n : ℕ} {new : Session
         }
 
     pub splice-declined : {len : ℕ} → (n ≡ 100 → ⊥) → Puts (SpliceResponse c n r.id) e len o
-        → Splices clock c r m e (record { len = len; moved = 0; accepted = false; new = new }) m o
+        → Splices clock c r m e (record { len = len; moved = 0; accepted = None }) m o
     splice-declined {len} h w =
         let back = sym (declined h) in
         record {
-          new = asked;
-          accepted = ap (λ (b : Spliced). b.accepted) back;
+          accepted = ap (λ (b : Spliced). cond b.accepted (Some (requested c r (all m))) None) back;
           holds = ap (λ (b : Spliced). b.turn.verdicts) back;
           tells = subst (λ (rs : List Record). Tells e 0 rs len o) (ap (λ (b : Spliced). b.turn.written) back) (tells_first w);
           moved = ap (λ (b : Spliced). b.moved) back;
@@ -159,7 +156,7 @@ pub splices-same : {clock c : ℕ} {r : Request} {m e : List ℕ} {g g' : Given}
     → Splices clock c r m e g' k' o'
     → (g ≡ g') × (all k ≡ all k') × (o ≡ o')
 splices-same {clock} {c} {r} {m} {e} {g} {g'} {k} {k'} {o} {o'} a b =
-    (given, same g.accepted g.new (all k) (all k') held, written_same e 0 _ a.tells.bytes b.tells.bytes)
+    (given, same g.accepted (all k) (all k') held, written_same e 0 _ a.tells.bytes b.tells.bytes)
   where
     len : g.len ≡ g'.len
     len = a.tells.count ∙ sym b.tells.count
@@ -170,18 +167,15 @@ splices-same {clock} {c} {r} {m} {e} {g} {g'} {k} {k'} {o} {o'} a b =
     yes : g.accepted ≡ g'.accepted
     yes = a.accepted ∙ sym b.accepted
 
-    new : g.new ≡ g'.new
-    new = a.new ∙ sym b.new
-
     given : g ≡ g'
-    given = λ i. record { len = len i; moved = moved i; accepted = yes i; new = new i }
+    given = λ i. record { len = len i; moved = moved i; accepted = yes i }
 
-    held : joined g.accepted g.new (all k) ≡ joined g.accepted g.new (all k')
-    held = a.holds ∙ sym b.holds ∙ ap₂ (λ (x : Bool) (s : Session). joined x s (all k')) (sym yes) (sym new)
+    held : joined g.accepted (all k) ≡ joined g.accepted (all k')
+    held = a.holds ∙ sym b.holds ∙ ap (λ (x : Option Session). joined x (all k')) (sym yes)
 
-    same : (x : Bool) (s : Session) (u v : List Verdict) → joined x s u ≡ joined x s v → u ≡ v
-    same true s u v h = append_cancel_right u v (verdict Waits s ∷ []) h
-    same false s u v h = h
+    same : (x : Option Session) (u v : List Verdict) → joined x u ≡ joined x v → u ≡ v
+    same (Some s) u v h = append_cancel_right u v (verdict Waits s ∷ []) h
+    same None u v h = h
 
 -- ## The answer to an Abort_Request
 

@@ -1,5 +1,5 @@
 -- What the answer to a Splice_Request promises of the lent words and of the buffer.
-use Rattle.std.specs.Prelude.{◌≡◌, Bool, cond, List, [], ◌∷◌, ◌++◌, ℕ, ◌≤◌}
+use Rattle.std.specs.Prelude.{◌≡◌, cond, List, [], ◌∷◌, ◌++◌, ℕ, ◌≤◌, Option, Some, None}
 use Rattle.rules.specs.declared.Request.{Request}
 use Rattle.rules.specs.declared.Session.{Session}
 use Rattle.rules.specs.Splicing.{accepts}
@@ -15,19 +15,23 @@ unfoldable pub admitted : Session → List Verdict → Turn
 admitted s l = and_then (evicted s.start.0 l) (writes (accepts s ∷ []))
 
 -- the verdicts l, and behind them that of a session that was accepted
-abbrev pub joined : Bool → Session → List Verdict → List Verdict
-joined b s l = cond b (l ++ (verdict Waits s ∷ [])) l
+abbrev pub joined : Option Session → List Verdict → List Verdict
+joined None l = l
+joined (Some s) l = l ++ (verdict Waits s ∷ [])
+
+-- the session that is asked for, if it is accepted
+abbrev pub accepted_of : (clock c : ℕ) → Request → List Verdict → Option Session
+accepted_of clock c r l = cond (answer_splice clock c r l).accepted (Some (requested c r l)) None
 
 -- the turn of the answer
 abbrev pub spliced : (clock c : ℕ) → Request → List Verdict → Turn
 spliced clock c r l = (answer_splice clock c r l).turn
 
--- of the words m and the buffer e: the session that is asked for, whether it was accepted and 02's number; the words k and it are the
--- verdicts after the answer, whose records stand in the buffer
+-- of the words m and the buffer e: the session that is asked for, if it was accepted, and 02's number; the words k and it are the verdicts
+-- after the answer, whose records stand in the buffer
 pub record Splices (clock c : ℕ) (r : Request) (m e : List ℕ) (g : Given) (k o : List ℕ) : Type 0 where
-  pub new : g.new ≡ requested c r (all m)
-  pub accepted : g.accepted ≡ (answer_splice clock c r (all m)).accepted
-  pub holds : joined g.accepted g.new (all k) ≡ (spliced clock c r (all m)).verdicts
+  pub accepted : g.accepted ≡ accepted_of clock c r (all m)
+  pub holds : joined g.accepted (all k) ≡ (spliced clock c r (all m)).verdicts
   pub tells : Tells e 0 (spliced clock c r (all m)).written g.len o
   pub moved : g.moved ≡ (answer_splice clock c r (all m)).moved
 

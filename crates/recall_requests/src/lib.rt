@@ -1,9 +1,9 @@
 // Checks b to f on verdicts in words, and the answers to a Splice_Request and an Abort_Request.
 // Every row of the words is a verdict; the new session of an accepted request goes into a row behind them, which is the caller's to
-// give.
+// give. Results are numbers, as the documents name them and the wire has them.
 #![tactic(auto)]
 
-ghost use Rattle.std.specs.Prelude.{◌≡◌, ◌+◌, ◌<◌, true};
+ghost use Rattle.std.specs.Prelude.{◌≡◌, ◌+◌, ◌<◌, Some};
 ghost use Rattle.rules.specs.Splicing.{prior_of, session_at, too_late, raised, sum_of};
 ghost use Rattle.rules.specs.Follows.Asked.{Within, Asked};
 ghost use Rattle.rules.specs.Units.{horizon};
@@ -17,39 +17,34 @@ ghost use Rattle.recall_requests.specs.Admits.{admitted, spliced, Few, Admits, S
 use recall_rows::{Stand, Test};
 use rules::{Ninths, Request, Session, Start};
 
-// What an answer gave: how far the output is written, 02's CR 11, and the session that was asked for, with whether it was accepted.
+// What an answer gave: how far the output is written, 02's CR 11, and the session that was accepted, if one was.
 #[derive(Clone, Copy)]
 pub struct Given {
     pub len: usize,
     pub moved: usize,
-    pub accepted: bool,
-    pub new: Session,
+    pub accepted: Option<Session>,
 }
 
 // Whether the connection holds the number.
 fn is_held(m: &[u64], conn: u64, id: u64) -> bool
     ensures { result ≡ holds conn id (all m.now) }
 {
-    let n = recall_ends::rows_in(m);
-    let i = recall_rows::find(m, n, Stand::Held, Test::Is(conn, id));
-    i < n
+    recall_rows::find(m, Stand::Held, Test::Is(conn, id)).is_some()
 }
 
 // The end of the connection's session of that number. Where it holds none, 0: check b refuses that.
+// No Option: `start_of` of recall_rules' Work is a number, where none is held the end of an empty session.
 fn end_of(m: &[u64], conn: u64, id: u64) -> Ninths
     ensures { result ≡ (session_of (all m.now) (which is_held (is conn id) (all m.now))).end }
 {
-    let n = recall_ends::rows_in(m);
-    let i = recall_rows::find(m, n, Stand::Held, Test::Is(conn, id));
-    if i < n {
-        let v = recall_rows::load(m, n, i);
-        let session = v.session;
-        return session.end;
+    match recall_rows::find(m, Stand::Held, Test::Is(conn, id)) {
+        Some(i) => recall_rows::load(m, i).session.end,
+        None => Ninths(0),
     }
-    Ninths(0)
 }
 
 // "A timed start is the request's time; a linked start is the prior session's end."
+// In the first engine too: the second engine has rules of its own (02, CR 12).
 fn start_of(m: &[u64], conn: u64, start: Start) -> Ninths
     requires { Within start }
     ensures { result.0 ≡ start_of conn start (all m.now) }
@@ -61,6 +56,8 @@ fn start_of(m: &[u64], conn: u64, start: Start) -> Ninths
 }
 
 // The PriorSession: 0xFFFFFFFF if timed.
+// In the first engine too: the second engine has rules of its own (02, CR 12).
+// No From: Start is of rules.
 fn prior_of(start: Start) -> u64
     ensures { result ≡ prior_of start }
 {
@@ -71,17 +68,16 @@ fn prior_of(start: Start) -> u64
 }
 
 // The session that a request asks for, its start being t. "End is start plus Duration."
+// In the first engine too: the second engine has rules of its own (02, CR 12).
 fn session_at(t: Ninths, conn: u64, r: Request) -> Session
     requires { t.0 + 429496729600 < 18446744073709551616 }
     ensures { result ≡ session_at t.0 conn r }
 {
-    let start = r.start;
-    let prior = prior_of(start);
     let d = units::from_ticks(r.duration);
     Session {
-        conn: conn,
+        conn,
         id: r.id as u64,
-        prior: prior,
+        prior: prior_of(r.start),
         start: t,
         end: Ninths(t.0 + d.0),
         access: r.access as u64,
@@ -106,17 +102,11 @@ fn is_unknown_prior(m: &[u64], conn: u64, start: Start) -> bool
 fn is_wrong_number(m: &[u64], conn: u64, r: Request) -> bool
     ensures { result ≡ wrong_number conn r (all m.now) }
 {
-    if r.id == 0xFFFFFFFF {
-        return true;
-    }
-    if is_held(m, conn, r.id as u64) {
-        return true;
-    }
-    let start = r.start;
-    is_unknown_prior(m, conn, start)
+    r.id == 0xFFFFFFFF || is_held(m, conn, r.id as u64) || is_unknown_prior(m, conn, r.start)
 }
 
 // c. "112: timed, and the start is less than 3 s after the clock."
+// In the first engine too: the second engine has rules of its own (02, CR 12).
 fn is_too_late(clock: Ninths, start: Start) -> bool
     requires clock_lt_horizon { clock.0 < horizon }
     requires within { Within start }
@@ -137,26 +127,22 @@ fn does_collide(m: &[u64], new: Session) -> bool
     requires { new.access + new.overrides < 18446744073709551616 }
     ensures { result ≡ collides new (all m.now) }
 {
-    let n = recall_ends::rows_in(m);
     let rank = new.access + new.overrides;
-    let i = recall_rows::find(m, n, Stand::Waiting, Test::Unranked(new.start.0, rank));
-    i < n
+    recall_rows::find(m, Stand::Waiting, Test::Unranked(new.start.0, rank)).is_some()
 }
 
 // How many of the connection wait.
 fn waiting(m: &[u64], conn: u64) -> usize
     ensures { result ≡ waits conn (all m.now) }
 {
-    let n = recall_ends::rows_in(m);
-    recall_rows::count(m, n, Stand::Waiting, Test::Of(conn))
+    recall_rows::count(m, Stand::Waiting, Test::Of(conn))
 }
 
 // A count, "raised to 10 if lower".
 fn raised_count(m: &[u64], conn: u64) -> usize
     ensures { result ≡ raised (waits conn (all m.now)) }
 {
-    let n = waiting(m, conn);
-    if n < 10 { 10 } else { n }
+    waiting(m, conn).max(10)
 }
 
 // "the four counts, each raised to 10 if lower"
@@ -164,11 +150,7 @@ fn raised_sum(m: &[u64]) -> usize
     requires { Few m.now }
     ensures { result ≡ sum_of (λ c. waits c (all m.now)) }
 {
-    let a = raised_count(m, 0);
-    let b = raised_count(m, 1);
-    let c = raised_count(m, 2);
-    let d = raised_count(m, 3);
-    a + (b + (c + d))
+    raised_count(m, 0) + (raised_count(m, 1) + (raised_count(m, 2) + raised_count(m, 3)))
 }
 
 // e. "114: this connection has 20 waiting; or it has 10 or more and the four counts, each raised to 10 if lower, sum to 64."
@@ -177,13 +159,7 @@ fn is_full(m: &[u64], conn: u64) -> bool
     ensures { result ≡ full conn (all m.now) }
 {
     let n = waiting(m, conn);
-    if n == 20 {
-        return true;
-    }
-    if n < 10 {
-        return false;
-    }
-    raised_sum(m) == 64
+    n == 20 || n >= 10 && raised_sum(m) == 64
 }
 
 // The first of b to f that applies. new: the session that r asks for.
@@ -197,8 +173,7 @@ fn splice_result(m: &[u64], clock: Ninths, r: Request, new: Session) -> u16
     if is_wrong_number(m, new.conn, r) {
         return 121;
     }
-    let start = r.start;
-    if is_too_late(clock, start) {
+    if is_too_late(clock, r.start) {
         return 112;
     }
     if does_collide(m, new) {
@@ -214,18 +189,15 @@ fn splice_result(m: &[u64], clock: Ninths, r: Request, new: Session) -> u16
 fn accept(m: &mut [u64], new: Session, out: &mut [u8]) -> Given
     requires { Room (admitted new) 0 m.old out.old }
     ensures admits { Admits new m.old out.old result m.new out.new }
-    ensures accepted_value { (result.accepted ≡ true) × (result.new ≡ new) }
+    ensures accepted_value { result.accepted ≡ Some new }
 {
     let t = new.start.0;
     let len = recall_ends::evict(&mut *m, t, &mut *out, 0);
-    let n = recall_ends::rows_in(&*m);
-    let moved = recall_rows::count(&*m, n, Stand::Waiting, Test::StartsAfter(t));
-    let to = len + writing::splice_response(&mut out[len..], new.conn, 100, new.id);
+    let moved = recall_rows::count(&*m, Stand::Waiting, Test::StartsAfter(t));
     Given {
-        len: to,
-        moved: moved,
-        accepted: true,
-        new: new,
+        len: len + writing::splice_response(&mut out[len..], new.conn, 100, new.id),
+        moved,
+        accepted: Some(new),
     }
 }
 
@@ -237,19 +209,16 @@ pub fn answer_splice(m: &mut [u64], clock: Ninths, conn: u64, r: Request, out: &
     requires room { Room (spliced clock.0 conn r) 0 m.old out.old }
     ensures { Splices clock.0 conn r m.old out.old result m.new out.new }
 {
-    let start = r.start;
-    let t = start_of(&*m, conn, start);
+    let t = start_of(&*m, conn, r.start);
     let new = session_at(t, conn, r);
     let n = splice_result(&*m, clock, r, new);
     if n == 100 {
         return accept(&mut *m, new, &mut *out);
     }
-    let len = writing::splice_response(&mut *out, conn, n, r.id as u64);
     Given {
-        len: len,
+        len: writing::splice_response(&mut *out, conn, n, r.id as u64),
         moved: 0,
-        accepted: false,
-        new: new,
+        accepted: None,
     }
 }
 

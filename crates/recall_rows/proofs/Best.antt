@@ -1,5 +1,5 @@
--- A scan that keeps the best of the first i finds the first that none comes before. Assumes nothing.
-use mathlib.Core.Path.{◌≡◌, refl, sym, ap, ◌∙◌}
+-- A scan that keeps the best of the first i finds the first that none comes before; where it finds none, none is there. Assumes nothing.
+use mathlib.Core.Path.{◌≡◌, refl, sym, ap, subst, ◌∙◌}
 use mathlib.Core.Bool.{Bool, true, false, not, ◌&&◌, ◌||◌}
 use mathlib.Core.List.{List, [], ◌∷◌}
 use mathlib.Core.Logic.{◌⊎◌, inl, inr}
@@ -9,9 +9,9 @@ use lib.Dec.{eqb, ltb}
 use lib.ListN.{length, get_or}
 use borrow.Author.Tests.{eqb-true, eqb-false, ltb-true, ltb-false, lt-ltb, le-ltb}
 use Rattle.rules.specs.declared.Session.{Session}
-use Rattle.rules.specs.Lists.{some, place}
+use Rattle.rules.specs.Lists.{some, count, place}
 use Rattle.rules.proofs.Tests.{clash, failed, and_both, both-and}
-use Rattle.rules.proofs.Count.{some-none}
+use Rattle.rules.proofs.Count.{some-none, some-place, place-holds}
 use Rattle.recall_rows.specs.declared.Test.{Test}
 use Rattle.recall_rows.specs.declared.Order.{Order}
 use Rattle.recall_rows.specs.declared.Order.TheVariants.{Highest, Earliest, Ending}
@@ -190,6 +190,73 @@ module _ (h : Phase → Bool) (before : Session → Session → Bool) (o : Stric
                     (both-and (h (get_or l b none).phase) (p s && before s (session_of l j)) w.0 y),
               ))
 
+-- ## What a scan in an order finds: it is one, and none comes before it; where none is found, none stands so
+
+module _ (h : Phase → Bool) (before : Session → Session → Bool) (o : Strict before) (p : Session → Bool) (l : List Verdict) where
+  record Led (i : ℕ) : Type 0 where
+    call : ℕ
+    leads : Leading h before o p l i call
+
+  -- of the first i one leads, or none is one
+  led-by : (i : ℕ) → i ≤ length l → Led i
+  led-by zero k = record { call = length l; leads = leading-none h before o p l }
+  led-by (suc i) k = go (led-by i (omega arith)) (one h before o p l i) refl
+    where
+      next : i + 1 ≡ suc i
+      next = omega arith
+
+      to : (b : ℕ) → Leading h before o p l (i + 1) b → Led (suc i)
+      to b x = record { call = b; leads = subst (λ (j : ℕ). Leading h before o p l j b) next x }
+
+      go : Led i → (a : Bool) → one h before o p l i ≡ a → Led (suc i)
+      go y false e =
+          to y.call (leading-stays h before o p l i y.call (omega arith) (λ f. absurd (clash (one h before o p l i) f e)) y.leads)
+      go y true e = among (ltb y.call (length l)) refl (before (session_of l i) (session_of l y.call)) refl
+        where
+          among : (c : Bool) → ltb y.call (length l) ≡ c → (d : Bool) → before (session_of l i) (session_of l y.call) ≡ d → Led (suc i)
+          among c f true g = to i (leading-next h before o p l i y.call (omega arith) e (λ k. g) y.leads)
+          among true f false g = to y.call (leading-stays h before o p l i y.call (omega arith)
+              (λ z. (ltb-true y.call (length l) f, g)) y.leads)
+          among false f false g =
+              to i (leading-next h before o p l i y.call (omega arith) e (λ k. absurd (omega (arith, ltb-false y.call (length l) f)))
+              y.leads)
+
+  abbrev at : ℕ
+  at = which h (first h before p l) l
+
+  -- none h before o p l is found: none stands so and passes
+  pub none_found : length l ≤ at → some p (standing h l) ≡ false
+  none_found k = sym (some-stands h p l) ∙ failed (some (stands h p) l)
+      (λ e. out (led-by (length l) (omega arith)) (ltb-true (place (stands h p) l) (length l) (sym (some-place (stands h p) l) ∙ e)))
+    where
+      out : Led (length l) → place (stands h p) l < length l → ⊥
+      out y m = ends y.leads
+        where
+          here : y.call ≡ at
+          here = leading-out h before o p l y.call y.leads
+
+          ends : Leading h before o p l (length l) y.call → ⊥
+          ends (inl n) =
+              clash (one h before o p l (place (stands h p) l)) (place-holds (stands h p) l none m) (n.1 (place (stands h p) l) m)
+          ends (inr b) = omega (arith, b.among, here)
+
+  module _ (k : at < length l) where
+    leader : (h (get_or l at none).phase ≡ true) × (first h before p l (session_of l at) ≡ true)
+    leader = and_both (h (get_or l at none).phase) (first h before p l (session_of l at))
+        (place-holds (stands h (first h before p l)) l none k)
+
+    -- it is counted
+    pub is-there : (r : Session → Bool) → r (session_of l at) ≡ true → 0 < count r (standing h l)
+    is-there r e = counted-at h r l at k (both-and (h (get_or l at none).phase) (r (session_of l at)) leader.0 e)
+
+    -- none comes before it
+    pub none_before : some (λ u. p u && before u (session_of l at)) (standing h l) ≡ false
+    none_before = flip (some (λ u. p u && before u (session_of l at)) (standing h l)) (and_both (p (session_of l at)) _ leader.1).1
+      where
+        flip : (b : Bool) → not b ≡ true → b ≡ false
+        flip true e = absurd (clash false e refl)
+        flip false e = refl
+
 -- ## A better one
 
 module _ (o : Order) (t : Test) (l : List Verdict) (i best : ℕ) where
@@ -200,13 +267,6 @@ module _ (o : Order) (t : Test) (l : List Verdict) (i best : ℕ) where
     pub better-is : (b r : Bool) → b ≡ stands h (session_test t) (get_or l i none) → b ≡ true → best < length l
         → r ≡ order_test o (session_of l i) (session_of l best) → r ≡ is_better o t l i best
     better-is b r e f k g = rw (as-order b e ∙ f, lt-ltb best (length l) k) g
-
-    pub better-first : (b : Bool) → b ≡ stands h (session_test t) (get_or l i none) → b ≡ true → length l ≤ best
-        → true ≡ is_better o t l i best
-    better-first b e f k = rw (as-order b e ∙ f, le-ltb best (length l) k) refl
-
-    pub better-not : (b : Bool) → b ≡ stands h (session_test t) (get_or l i none) → b ≡ false → false ≡ is_better o t l i best
-    better-not b e f = rw (as-order b e ∙ f) refl
 
   abbrev is_one : Bool
   is_one = stands (order_stand o) (session_test t) (get_or l i none)

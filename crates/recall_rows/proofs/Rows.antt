@@ -2,20 +2,24 @@
 -- They speak of a verdict's words as a list of `width`; only `verdict_of` and `words_of` know which word is which part.
 use mathlib.Core.Path.{◌≡◌, refl, sym, ap, ap₂, ◌∙◌}
 use mathlib.Core.List.{List, [], ◌∷◌, ◌++◌, append_assoc}
-use Prim.Native.Nat.{ℕ, zero, suc, ◌+◌, ◌*◌, ◌≤◌, ◌<◌}
+use Prim.Native.Nat.{ℕ, zero, suc, ◌+◌, ◌*◌, ◌/◌, ◌≤◌, ◌<◌}
 use native.Mathlib.Omega.{arith}
 use native.Mathlib.Nat.{le_of_suc-le-suc}
-use lib.ListN.{length, take, drop, set, get_or, length-drop}
+use lib.ListN.{length, take, drop, set, get_or, length-set, length-drop}
 use lib.Seq.{length-take-le, sets, sets-eq, take-add, drop-drop, get_or-drop}
 use Rattle.recall_rules.specs.declared.Phase.{Phase}
 use Rattle.recall_rules.specs.declared.Phase.TheVariants.{Out, Waits, Started, Ended}
 use Rattle.recall_rules.specs.declared.Verdict.{Verdict}
-use Rattle.recall_rows.specs.Rows.{width, phase_of, code_of, nth_of, result_of, verdict_of, words_of, row, verdicts_in, Fits}
+use Rattle.recall_rows.specs.Rows.{width, phase_of, code_of, nth_of, result_of, verdict_of, words_of, row, verdicts_in, all, Fits}
 
 pub length-in : (n : ℕ) (m : List ℕ) → length (verdicts_in n m) ≡ n
 unfolding verdicts_in
 length-in zero m = refl
 length-in (suc n) m = ap suc (length-in n (drop width m))
+
+-- as many verdicts as rows
+pub length-all : (m : List ℕ) → length (all m) ≡ length m / width
+length-all m = length-in (length m / width) m
 
 rows-loaded : (n i : ℕ) (m : List ℕ) (d : Verdict) → i < n → row (drop (i * width) m) ≡ get_or (verdicts_in n m) i d
 unfolding verdicts_in
@@ -123,3 +127,23 @@ store_is n i m v h k =
     (put-sets (i * width) 0 (words_of v) m ∙ ap (λ (j : ℕ). sets m j (words_of v)) e ∙ sets-eq (words_of v) m (i * width) (omega arith)
     ∙ append_assoc (take (i * width) m) (words_of v) (drop (i * width + width) m))
     ∙ row-with n i m v h k
+
+length-put : (b k : ℕ) (vs m : List ℕ) → length (put b k vs m) ≡ length m
+length-put b k [] m = refl
+length-put b k (v ∷ vs) m = length-put b (suc k) vs (set m (b + k) v) ∙ length-set m (b + k) v
+
+pub store_all : (i : ℕ) (m : List ℕ) (v : Verdict) → i < length m / width → all (stored m i v) ≡ set (all m) i v
+store_all i m v h =
+    ap (λ (j : ℕ). verdicts_in (j / width) (stored m i v)) (length-put (i * width) 0 (words_of v) m)
+    ∙ store_is (length m / width) i m v h (omega arith)
+
+-- ## The first n rows of more
+
+more : (n k : ℕ) (m : List ℕ) → n ≤ k → verdicts_in n m ≡ take n (verdicts_in k m)
+unfolding verdicts_in
+more zero k m h = refl
+more (suc n) zero m h = absurd (omega arith)
+more (suc n) (suc k) m h = ap (λ l. row m ∷ l) (more n k (drop width m) (le_of_suc-le-suc h))
+
+pub of-more : (n : ℕ) (m : List ℕ) → Fits n m → verdicts_in n m ≡ take n (all m)
+of-more n m f = more n (length m / width) m (omega arith)

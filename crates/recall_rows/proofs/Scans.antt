@@ -1,82 +1,54 @@
--- Laws of scans: what the first word of a row says, and what is known of the first i rows. Assumes nothing.
-use mathlib.Core.Path.{◌≡◌, refl, ap, ◌∙◌}
-use mathlib.Core.Bool.{Bool, true, false, cond, not, ◌&&◌}
+-- Laws of scans: a place in a list or none, and what is known of the first i rows. Assumes nothing.
+use mathlib.Core.Path.{◌≡◌, refl, sym, ap, ◌∙◌}
+use mathlib.Core.Bool.{Bool, true, false, cond, ◌&&◌}
 use mathlib.Core.List.{List, [], ◌∷◌}
 use Prim.Native.Nat.{ℕ, suc, ◌+◌, ◌≤◌, ◌<◌}
 use native.Mathlib.Omega.{arith}
-use lib.Dec.{eqb, leb, ltb}
+use lib.Dec.{ltb}
 use lib.ListN.{length, drop, get_or, drop_of_length-le}
 use lib.Seq.{drop-cons}
-use borrow.Author.Tests.{eqb-true, le-leb, lt-leb, ltb-true, ltb-false}
+use borrow.Author.Tests.{ltb-true, ltb-false, lt-ltb, le-ltb}
 use Rattle.rules.specs.declared.Session.{Session}
 use Rattle.rules.specs.Lists.{bit, count, place}
 use Rattle.rules.proofs.Count.{count-put}
 use Rattle.recall_rules.specs.declared.Phase.{Phase}
-use Rattle.recall_rules.specs.declared.Phase.TheVariants.{Out, Waits, Started, Ended}
 use Rattle.recall_rules.specs.declared.Verdict.{Verdict}
-use Rattle.recall_rules.specs.Verdicts.{is_waiting, has_started, is_held, has_ended, standing, stands}
-use Rattle.recall_rows.specs.Rows.{phase_of}
+use Rattle.recall_rules.specs.Verdicts.{standing, stands}
+use Rattle.recall_rows.specs.Scans.{place_in, or_length}
+use Rattle.std.specs.declared.option.Option.{Option}
+use Rattle.std.specs.declared.option.Option.TheVariants.{Some, None}
+use Rattle.std.specs.Option.{IfSome}
+use Rattle.std.proofs.lemmas.Option.{none-some, same_Some}
 
--- ## The words of a phase
+-- ## A place in a list, or none
 
-module _ (k n r : ℕ) where
-  both-not : eqb k 1 ≡ true → eqb k 2 ≡ true → ⊥
-  both-not e f = omega (arith, eqb-true k 1 e, eqb-true k 2 f)
+module _ {A : Type 0} (l : List A) where
+  pub place-some : (i j : ℕ) → i ≡ j → i < length l → Some i ≡ place_in l j
+  place-some i j e h = rw (lt-ltb j (length l) (omega (arith, e, h))) (ap (λ (k : ℕ). Some k) e)
 
-  pub waiting-code : eqb k 1 ≡ is_waiting (phase_of k n r)
-  unfolding phase_of
-  waiting-code = go (eqb k 1) (eqb k 2) (eqb k 3)
+  pub place-none : (j : ℕ) → length l ≤ j → None ≡ place_in l j
+  place-none j h = rw (le-ltb j (length l) h) refl
+
+  -- one is found
+  pub found : {r : Option ℕ} {i j : ℕ} → r ≡ place_in l j → r ≡ Some i → (i ≡ j) × (i < length l)
+  found {r} {i} {j} e f = go (ltb j (length l)) refl (sym e ∙ f)
     where
-      go : (a b c : Bool) → a ≡ is_waiting (cond a Waits (cond b Started (cond c (Ended n r) Out)))
-      go true b c = refl
-      go false true c = refl
-      go false false true = refl
-      go false false false = refl
+      go : (b : Bool) → ltb j (length l) ≡ b → cond b (Some j) None ≡ Some i → (i ≡ j) × (i < length l)
+      go true g h = let k = sym (same_Some j i h) in (k, omega (arith, ltb-true j (length l) g, k))
+      go false g h = absurd (none-some i h)
 
-  pub started-code : eqb k 2 ≡ has_started (phase_of k n r)
-  unfolding phase_of
-  started-code = go (eqb k 1) (eqb k 2) (eqb k 3) both-not
+  -- none is
+  pub missing : {r : Option ℕ} {j : ℕ} → r ≡ place_in l j → r ≡ None → length l ≤ j
+  missing {r} {j} e f = go (ltb j (length l)) refl (sym e ∙ f)
     where
-      go : (a b c : Bool) → (a ≡ true → b ≡ true → ⊥) → b ≡ has_started (cond a Waits (cond b Started (cond c (Ended n r) Out)))
-      go true true c h = absurd (h refl refl)
-      go true false c h = refl
-      go false true c h = refl
-      go false false true h = refl
-      go false false false h = refl
+      go : (b : Bool) → ltb j (length l) ≡ b → cond b (Some j) None ≡ None → length l ≤ j
+      go true g h = absurd (none-some j (sym h))
+      go false g h = ltb-false j (length l) g
 
-  pub held_one : eqb k 1 ≡ true → eqb k 1 ≡ is_held (phase_of k n r)
-  unfolding phase_of
-  held_one e = rw e refl
-
-  pub held_two : eqb k 1 ≡ false → eqb k 2 ≡ is_held (phase_of k n r)
-  unfolding phase_of
-  held_two e = rw e (go (eqb k 2) (eqb k 3))
-    where
-      go : (b c : Bool) → b ≡ is_held (cond b Started (cond c (Ended n r) Out))
-      go true c = refl
-      go false true = refl
-      go false false = refl
-
-  pub ended-code : eqb k 3 ≡ has_ended (phase_of k n r)
-  unfolding phase_of
-  ended-code = go (eqb k 1) (eqb k 2) (eqb k 3) (λ e f. omega (arith, eqb-true k 1 e, eqb-true k 3 f))
-      (λ e f. omega (arith, eqb-true k 2 e, eqb-true k 3 f))
-    where
-      go : (a b c : Bool) → (a ≡ true → c ≡ true → ⊥) → (b ≡ true → c ≡ true → ⊥)
-          → c ≡ has_ended (cond a Waits (cond b Started (cond c (Ended n r) Out)))
-      go true b true h i = absurd (h refl refl)
-      go true b false h i = refl
-      go false true true h i = absurd (i refl refl)
-      go false true false h i = refl
-      go false false true h i = refl
-      go false false false h i = refl
-
-pub not-below : (a b : ℕ) → leb a b ≡ not (ltb b a)
-not-below a b = go (ltb b a) refl
-  where
-    go : (v : Bool) → ltb b a ≡ v → leb a b ≡ not v
-    go true e = lt-leb a b (ltb-true b a e)
-    go false e = le-leb a b (ltb-false b a e)
+  -- the best so far, or none, is at last the place
+  pub best-place : (r : Option ℕ) (j : ℕ) → IfSome r (λ b. b < length l) → or_length l r ≡ j → r ≡ place_in l j
+  best-place None j h e = place-none j (omega (arith, e))
+  best-place (Some b) j h e = place-some b j e h
 
 -- ## The first that passes: none before i does, and the rest decides
 

@@ -1,5 +1,5 @@
 -- The verdicts that lent words hold.
-use Rattle.std.specs.Prelude.{cond, List, [], ◌∷◌, ℕ, zero, suc, ◌*◌, ◌≤◌, eqb, length, drop, get_or}
+use Rattle.std.specs.Prelude.{cond, List, [], ◌∷◌, ℕ, zero, suc, ◌*◌, ◌/◌, ◌≤◌, eqb, length, drop, get_or}
 use Rattle.recall_rules.specs.declared.Phase.{Phase}
 use Rattle.recall_rules.specs.declared.Phase.TheVariants.{Out, Waits, Started, Ended}
 use Rattle.recall_rules.specs.declared.Verdict.{Verdict}
@@ -66,6 +66,10 @@ row m = verdict_of (λ k. get_or m k 0)
 unfoldable pub verdicts_in : ℕ → List ℕ → List Verdict
 verdicts_in zero m = []
 verdicts_in (suc n) m = row m ∷ verdicts_in n (drop width m)
+
+-- every row of the words is a verdict
+abbrev pub all : List ℕ → List Verdict
+all m = verdicts_in (length m / width) m
 
 -- n rows stand in the words m
 abbrev pub Fits : ℕ → List ℕ → Type 0

@@ -1,5 +1,5 @@
 -- What a scan looks for, and in which order.
-use Rattle.std.specs.Prelude.{Bool, true, not, ◌&&◌, ◌||◌, List, ℕ, ltb, length, get_or}
+use Rattle.std.specs.Prelude.{Bool, true, cond, not, ◌&&◌, ◌||◌, List, ℕ, Option, Some, None, ltb, length, get_or}
 use Rattle.rules.specs.declared.Session.{Session}
 use Rattle.rules.specs.State.{of, is, follows, starts_at, starts_after, ends_at}
 use Rattle.recall_rows.specs.declared.Stand.{Stand}
@@ -40,6 +40,15 @@ abbrev pub order_test : Order → Session → Session → Bool
 order_test Highest = higher
 order_test Earliest = earlier
 order_test Ending = λ u s. ltb u.end.0 s.end.0
+
+-- a place in the list; its length is none
+abbrev pub place_in : {A : Type 0} → List A → ℕ → Option ℕ
+place_in l i = cond (ltb i (length l)) (Some i) None
+
+-- the place that an option names, or the length
+abbrev pub or_length : {A : Type 0} → List A → Option ℕ → ℕ
+or_length l None = length l
+or_length l (Some i) = i
 
 -- of those that are looked through and pass the test, the first call that none comes before, or the length
 abbrev pub first_in : Order → Test → List Verdict → ℕ

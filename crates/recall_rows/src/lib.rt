@@ -1,14 +1,18 @@
 // Verdicts in rows of lent words, and the few scans that look through them.
+// The words are the caller's, of the C interface, and there is no heap: so a verdict is a row of them, and is named by its place.
 #![tactic(auto)]
 
-ghost use Rattle.std.specs.Prelude.{◌≡◌, ◌+◌, ◌*◌, ◌≤◌, ◌<◌, length, get_or, set};
+ghost use Rattle.std.specs.Prelude.{◌≡◌, ◌+◌, ◌*◌, ◌/◌, ◌≤◌, ◌<◌, length, get_or, set, IfSome};
 ghost use Rattle.rules.specs.Lists.{count};
 ghost use Rattle.recall_rules.specs.Verdicts.{none, standing, stands, which};
-ghost use Rattle.recall_rows.specs.Rows.{Fits, phase_of, code_of, nth_of, result_of, verdicts_in};
-ghost use Rattle.recall_rows.specs.Scans.{stand_test, session_test, order_stand, order_test, first_in, is_better};
+ghost use Rattle.recall_rows.specs.Rows.{width, phase_of, code_of, nth_of, result_of, all};
+ghost use Rattle.recall_rows.specs.Scans.{stand_test, session_test, order_stand, order_test, place_in, or_length, first_in, is_better};
 
 use recall_rules::{Phase, Verdict};
 use rules::{Ninths, Session};
+
+// What a scan looks for is data and no closure: with a closure each contract here and in recall_ends would need a ghost function beside it,
+// which `stand_test`, `session_test` and `order_test` make of the data.
 
 // How those stand that a scan looks through: `stand_test` of specs/ gives each its test.
 #[derive(Clone, Copy)]
@@ -69,30 +73,42 @@ const EVENT: usize = 11;
 
 const PLAYED: usize = 12;
 
+// How many rows the words have.
+pub fn rows_in(m: &[u64]) -> usize
+    ensures { result ≡ length m.now / width }
+{
+    m.len() / WIDTH
+}
+
 // The phase that three words say.
+// No From: Phase is of recall_rules, and a tuple is nobody's.
 fn phase_of(code: u64, nth: u64, res: u64) -> Phase
     ensures { result ≡ phase_of code nth res }
 {
-    if code == 1 {
-        return Phase::Waits;
+    match code {
+        1 => Phase::Waits,
+        2 => Phase::Started,
+        3 => Phase::Ended(nth, res),
+        _ => Phase::Out,
     }
-    if code == 2 {
-        return Phase::Started;
-    }
-    if code == 3 {
-        return Phase::Ended(nth, res);
-    }
-    Phase::Out
 }
 
-// The verdict i of n.
-pub fn load(m: &[u64], n: usize, i: usize) -> Verdict
-    requires fits { Fits n m.now }
-    requires i_lt_n { i < n }
-    ensures { result ≡ get_or (verdicts_in n m.now) i none }
+// How the session of row i stands.
+fn phase_at(m: &[u64], i: usize) -> Phase
+    requires { i < length m.now / width }
+    ensures { result ≡ (get_or (all m.now) i none).phase }
 {
     let b = i * WIDTH;
-    let phase = phase_of(m[b + PHASE], m[b + NTH], m[b + RESULT]);
+    phase_of(m[b + PHASE], m[b + NTH], m[b + RESULT])
+}
+
+// The verdict of row i.
+pub fn load(m: &[u64], i: usize) -> Verdict
+    requires { i < length m.now / width }
+    ensures { result ≡ get_or (all m.now) i none }
+{
+    let b = i * WIDTH;
+    let phase = phase_at(m, i);
     let session = Session {
         conn: m[b + CONN],
         id: m[b + ID],
@@ -108,50 +124,24 @@ pub fn load(m: &[u64], n: usize, i: usize) -> Verdict
     Verdict { phase, session }
 }
 
-// The words that say a phase.
-fn code_of(phase: Phase) -> u64
-    ensures { result ≡ code_of phase }
+// The words that say a phase: its code, the number of its end and the result.
+fn words_of(phase: Phase) -> (u64, u64, u64)
+    ensures { result ≡ (code_of phase, nth_of phase, result_of phase) }
 {
     match phase {
-        Phase::Out => 0,
-        Phase::Waits => 1,
-        Phase::Started => 2,
-        Phase::Ended(_, _) => 3,
+        Phase::Out => (0, 0, 0),
+        Phase::Waits => (1, 0, 0),
+        Phase::Started => (2, 0, 0),
+        Phase::Ended(nth, result) => (3, nth, result),
     }
 }
 
-fn nth_of(phase: Phase) -> u64
-    ensures { result ≡ nth_of phase }
+// v as the verdict of row i.
+pub fn store(m: &mut [u64], i: usize, v: Verdict)
+    requires { i < length m.old / width }
+    ensures { all m.new ≡ set (all m.old) i v }
 {
-    match phase {
-        Phase::Out => 0,
-        Phase::Waits => 0,
-        Phase::Started => 0,
-        Phase::Ended(nth, _) => nth,
-    }
-}
-
-fn result_of(phase: Phase) -> u64
-    ensures { result ≡ result_of phase }
-{
-    match phase {
-        Phase::Out => 0,
-        Phase::Waits => 0,
-        Phase::Started => 0,
-        Phase::Ended(_, result) => result,
-    }
-}
-
-// v as the verdict i of n.
-pub fn store(m: &mut [u64], n: usize, i: usize, v: Verdict)
-    requires fits { Fits n m.old }
-    requires i_lt_n { i < n }
-    ensures { verdicts_in n m.new ≡ set (verdicts_in n m.old) i v }
-{
-    let phase = v.phase;
-    let code = code_of(phase);
-    let nth = nth_of(phase);
-    let result = result_of(phase);
+    let (code, nth, result) = words_of(v.phase);
     let x = v.session;
     let b = i * WIDTH;
     m[b + PHASE] = code;
@@ -171,18 +161,15 @@ pub fn store(m: &mut [u64], n: usize, i: usize, v: Verdict)
 
 // ---- Scans
 
-// Whether the verdict i of n stands so.
-fn does_stand(m: &[u64], n: usize, i: usize, stand: Stand) -> bool
-    requires fits { Fits n m.now }
-    requires i_lt_n { i < n }
-    ensures { result ≡ stand_test stand (get_or (verdicts_in n m.now) i none).phase }
+// Whether a phase is one of those.
+fn does_stand(phase: Phase, stand: Stand) -> bool
+    ensures { result ≡ stand_test stand phase }
 {
-    let code = m[i * WIDTH + PHASE];
     match stand {
-        Stand::Waiting => code == 1,
-        Stand::Started => code == 2,
-        Stand::Held => code == 1 || code == 2,
-        Stand::Ended => code == 3,
+        Stand::Waiting => matches!(phase, Phase::Waits),
+        Stand::Started => matches!(phase, Phase::Started),
+        Stand::Held => matches!(phase, Phase::Waits | Phase::Started),
+        Stand::Ended => matches!(phase, Phase::Ended(_, _)),
     }
 }
 
@@ -202,46 +189,36 @@ fn does_pass(x: Session, test: Test) -> bool
     }
 }
 
-// Whether the verdict i of n stands so, and its session passes the test.
-fn is_one(m: &[u64], n: usize, i: usize, stand: Stand, test: Test) -> bool
-    requires fits { Fits n m.now }
-    requires i_lt_n { i < n }
-    ensures { result ≡ stands (stand_test stand) (session_test test) (get_or (verdicts_in n m.now) i none) }
+// Whether the verdict of row i stands so, and its session passes the test.
+fn is_one(m: &[u64], i: usize, stand: Stand, test: Test) -> bool
+    requires { i < length m.now / width }
+    ensures { result ≡ stands (stand_test stand) (session_test test) (get_or (all m.now) i none) }
 {
-    if does_stand(m, n, i, stand) {
-        let v = load(m, n, i);
-        return does_pass(v.session, test);
-    }
-    false
+    does_stand(phase_at(m, i), stand) && does_pass(load(m, i).session, test)
 }
 
-// The first of n that stands so and passes the test, or n.
-pub fn find(m: &[u64], n: usize, stand: Stand, test: Test) -> usize
-    requires { Fits n m.now }
-    ensures { result ≡ which (stand_test stand) (session_test test) (verdicts_in n m.now) }
+// The first row that stands so and passes the test.
+pub fn find(m: &[u64], stand: Stand, test: Test) -> Option<usize>
+    ensures first { result ≡ place_in (all m.now) (which (stand_test stand) (session_test test) (all m.now)) }
+    ensures in_bounds { IfSome result (λ i. i < length m.now / width) }
 {
-    let mut i = 0;
-    while i < n {
-        if is_one(m, n, i, stand, test) {
-            return i;
+    for i in 0..rows_in(m) {
+        if is_one(m, i, stand, test) {
+            return Some(i);
         }
-        i += 1;
     }
-    i
+    None
 }
 
-// How many of n stand so and pass the test.
-pub fn count(m: &[u64], n: usize, stand: Stand, test: Test) -> usize
-    requires { Fits n m.now }
-    ensures { result ≡ count (session_test test) (standing (stand_test stand) (verdicts_in n m.now)) }
+// How many stand so and pass the test.
+pub fn count(m: &[u64], stand: Stand, test: Test) -> usize
+    ensures { result ≡ count (session_test test) (standing (stand_test stand) (all m.now)) }
 {
     let mut found = 0;
-    let mut i = 0;
-    while i < n {
-        if is_one(m, n, i, stand, test) {
+    for i in 0..rows_in(m) {
+        if is_one(m, i, stand, test) {
             found += 1;
         }
-        i += 1;
     }
     found
 }
@@ -251,13 +228,13 @@ fn stand_of(order: Order) -> Stand
     ensures { stand_test result ≡ order_stand order }
 {
     match order {
-        Order::Highest => Stand::Started,
         Order::Earliest => Stand::Waiting,
-        Order::Ending => Stand::Started,
+        Order::Highest | Order::Ending => Stand::Started,
     }
 }
 
 // Whether x comes before y.
+// No Ord: of a session there are three orders.
 fn comes_before(x: Session, y: Session, order: Order) -> bool
     ensures { result ≡ order_test order x y }
 {
@@ -268,36 +245,29 @@ fn comes_before(x: Session, y: Session, order: Order) -> bool
     }
 }
 
-// Whether the verdict i of n is one, and comes before the verdict `best`, if that is one of them.
-fn is_better(m: &[u64], n: usize, i: usize, best: usize, order: Order, test: Test) -> bool
-    requires fits { Fits n m.now }
-    requires i_lt_n { i < n }
-    ensures { result ≡ is_better order test (verdicts_in n m.now) i best }
+// Whether the verdict of row i is one, and comes before the best so far, if there is any.
+fn is_better(m: &[u64], i: usize, best: Option<usize>, order: Order, test: Test) -> bool
+    requires i_in_bounds { i < length m.now / width }
+    requires best_in_bounds { IfSome best (λ b. b < length m.now / width) }
+    ensures { result ≡ is_better order test (all m.now) i (or_length (all m.now) best) }
 {
-    let stand = stand_of(order);
-    if is_one(m, n, i, stand, test) {
-        if best < n {
-            let v = load(m, n, i);
-            let w = load(m, n, best);
-            return comes_before(v.session, w.session, order);
+    is_one(m, i, stand_of(order), test)
+        && match best {
+            Some(b) => comes_before(load(m, i).session, load(m, b).session, order),
+            None => true,
         }
-        return true;
-    }
-    false
 }
 
-// Of those that stand so and pass the test, the first of n that none comes before, or n.
-pub fn first_of(m: &[u64], n: usize, order: Order, test: Test) -> usize
-    requires { Fits n m.now }
-    ensures { result ≡ first_in order test (verdicts_in n m.now) }
+// Of those that stand so and pass the test, the first that none comes before.
+pub fn first_of(m: &[u64], order: Order, test: Test) -> Option<usize>
+    ensures first { result ≡ place_in (all m.now) (first_in order test (all m.now)) }
+    ensures in_bounds { IfSome result (λ i. i < length m.now / width) }
 {
-    let mut best = n;
-    let mut i = 0;
-    while i < n {
-        if is_better(m, n, i, best, order, test) {
-            best = i;
+    let mut best = None;
+    for i in 0..rows_in(m) {
+        if is_better(m, i, best, order, test) {
+            best = Some(i);
         }
-        i += 1;
     }
     best
 }

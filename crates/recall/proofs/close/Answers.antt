@@ -1,75 +1,51 @@
--- 13, or the pass and the call behind it; a good one is kept. Rests on what `recall_pass` promises, and on Calls.
+-- 13, or the call behind the pass; a good one is kept. Rests on what `recall_pass` promises, and on Calls.
 use borrow.Author.Rules.{rules}
-use Rattle.recall_log.proofs.Keeps.{close-low}
-use Rattle.recall_log.proofs.Logs.{not_full}
+use Rattle.std.proofs.lemmas.Result.{err_from_is_err_and}
 use Rattle.recall_log.specs.Kept.{kept_form}
+use Rattle.recall_log.proofs.Keeps.{close-low}
 use Rattle.recall_pass.proofs.Laws.{passed-ready}
-use Rattle.recall.proofs.Calls.{remembers-full, space-none, space-from, played-not, played-done, played-good, close-is}
+use Rattle.recall.proofs.Calls.{begun-full, begun-there, played-not, played-done, played-good, close-is}
 use Rattle.rules.proofs.All.{all-at}
 use Rattle.rules.specs.Follows.Wires.{Byte}
 use Rattle.rules.specs.Calls.{closes}
 use lib.ListN.{length}
-use mathlib.Core.Path.{sym, ◌∙◌}
 use native.Mathlib.Omega.{arith}
 use Rattle.recall.proofs.close.Goals as goal
 
-pub returns-in_default : goal.returns-in_default
-returns-in_default c =
-    let next_place = c.next_place-space in
-    remembers-full (closes c.args.conn (length c.args.out.now)) c.args.log.now c.args.out.now
-    (space-none c.args.log.now (sym next_place.ensures ∙ c.in_default.is))
+pub returns-in_err-at : goal.returns-in_err-at
+returns-in_err-at c =
+    let p = err_from_is_err_and c.from_residual.result c.from_residual.ensures.1 in
+    rw (p.1, p.2) (begun-full (closes c.args.conn (length c.args.out.now)) c.args.log.now c.args.out.now c.begin.new.m c.begin.ensures
+    c.in_err-at.was)
 
-pub pass-h-requires : goal.pass-h-requires
-pass-h-requires c =
-    let next_place = c.next_place-space in
-    record {
-      log_len_bound = (not_full c.args.log.now (space-from c.args.log.now (sym next_place.ensures ∙ c.in-From.is)).0).few;
-      width_in_bounds = omega arith;
-    }
+pub close-requires : goal.close-requires
+close-requires c = passed-ready (begun-there c.args.log.now c.begin.new.m c.begin.ensures c.in_ok-at.was).2
 
-pub close-p-requires : goal.close-p-requires
-close-p-requires c =
-    let pass = c.pass-h in
-    passed-ready pass.ensures
-
-pub returns-in_default-reply : goal.returns-in_default-reply
-returns-in_default-reply c =
-    let next_place = c.next_place-space in
-    let pass = c.pass-h in
-    let close = c.close-p in
-    played-not (closes c.args.conn (length c.args.out.now)) c.args.log.now
-    (all-at Byte 0 c.args.log.now (λ i. search rules))
-    (space-from c.args.log.now (sym next_place.ensures ∙ c.in-From.is)).0 pass.ensures
-    (close-is c.args.conn (length c.args.out.now)) (close.ensures c.args.log.now) c.in_default-reply.not-Done
+pub returns-in_err-p : goal.returns-in_err-p
+returns-in_err-p c =
+    let p = err_from_is_err_and c.from_residual-in_err-p.result c.from_residual-in_err-p.ensures.1 in
+    let l = c.args.log.now in
+    let b = begun-there l c.begin.new.m c.begin.ensures c.in_ok-at.was in
+    rw (p.1, p.2) (played-not (closes c.args.conn (length c.args.out.now)) l (all-at Byte 0 l (λ i. search rules)) b.0 b.2
+    (close-is c.args.conn (length c.args.out.now)) (c.close.ensures l) c.in_err-p.was)
 
 pub overflow_cast-conn : goal.overflow_cast-conn
 overflow_cast-conn c =
-    let next_place = c.next_place-space in
-    let pass = c.pass-h in
-    let close = c.close-p in
+    let l = c.args.log.now in
+    let b = begun-there l c.begin.new.m c.begin.ensures c.in_ok-at.was in
     omega (
       arith,
-      close-low c.args.conn (length c.args.out.now) _
-          (played-good (closes c.args.conn (length c.args.out.now)) c.args.log.now
-          (all-at Byte 0 c.args.log.now (λ i. search rules))
-          (space-from c.args.log.now (sym next_place.ensures ∙ c.in-From.is)).0 pass.ensures
-          (close-is c.args.conn (length c.args.out.now)) (close.ensures c.args.log.now) c.in-Done.is),
+      close-low c.args.conn (length c.args.out.now) _ (played-good (closes c.args.conn (length c.args.out.now)) l
+          (all-at Byte 0 l (λ i. search rules)) b.0 b.2 (close-is c.args.conn (length c.args.out.now)) (c.close.ensures l) c.in_ok-p.was),
     )
 
 pub keep_close-requires : goal.keep_close-requires
-keep_close-requires c =
-    let next_place = c.next_place-space in
-    (space-from c.args.log.now (sym next_place.ensures ∙ c.in-From.is)).1
+keep_close-requires c = (begun-there c.args.log.now c.begin.new.m c.begin.ensures c.in_ok-at.was).1
 
 pub returns : goal.returns
 unfolding kept_form
 returns c =
-    let next_place = c.next_place-space in
-    let pass = c.pass-h in
-    let close = c.close-p in
-    let keep-close = c.keep_close in
-    played-done (closes c.args.conn (length c.args.out.now)) c.args.log.now
-    (all-at Byte 0 c.args.log.now (λ i. search rules))
-    (space-from c.args.log.now (sym next_place.ensures ∙ c.in-From.is)).0 pass.ensures
-    (close-is c.args.conn (length c.args.out.now)) (close.ensures c.args.log.now) c.in-Done.is
-    keep-close.ensures
+    let l = c.args.log.now in
+    let b = begun-there l c.begin.new.m c.begin.ensures c.in_ok-at.was in
+    played-done (closes c.args.conn (length c.args.out.now)) l (all-at Byte 0 l (λ i. search rules)) b.0 b.2 (close-is c.args.conn
+    (length c.args.out.now)) (c.close.ensures l) c.in_ok-p.was c.keep_close.ensures

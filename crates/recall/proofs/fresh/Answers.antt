@@ -13,4 +13,4 @@ pub returns : goal.returns
 returns c =
     let if1 = c.if-log-ne-LOG in
     let clear = c.clear in
-    forgets-all (logs.same_length c.args.log.now (omega (arith, if1.false))) clear.ensures
+    forgets-all (logs.same_length c.args.log.now (omega (arith, if1.false))) c.unmoved.ensures clear.ensures

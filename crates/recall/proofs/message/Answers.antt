@@ -1,8 +1,8 @@
 -- 13, a refusal, or the answer, GetConfig's record behind it, and the message kept. Rests on what `recall_pass` promises, and on Messages.
 use Prim.Native.Nat.{ℕ, ◌≤◌}
-use Rattle.recall_log.proofs.Logs.{not_full}
+use Rattle.std.proofs.lemmas.Result.{err_from_is_err_and}
 use Rattle.recall_pass.proofs.Laws.{passed-ready}
-use Rattle.recall.proofs.Calls.{remembers-full, space-none, space-from}
+use Rattle.recall.proofs.Calls.{begun-full, begun-there}
 use Rattle.recall.proofs.Messages.{both-short, framed-here, chosen, brief, message-refused, message-low, message-within}
 use Rattle.recall.proofs.Messages.{message-whole}
 use Rattle.rules.proofs.All.{all-at}
@@ -14,203 +14,92 @@ use lib.Dec.{eqb}
 use lib.ListN.{length}
 use mathlib.Core.Bool.{cond}
 use mathlib.Core.List.{List}
-use mathlib.Core.Path.{sym, ◌∙◌}
 use mathlib.Core.Path.{sym, subst, ap, ◌∙◌}
 use native.Mathlib.Omega.{arith}
 use Rattle.recall.proofs.message.Goals as goal
 
-pub returns-in_default : goal.returns-in_default
-returns-in_default c =
-    let next_place = c.next_place-space in
-    remembers-full (messages c.args.conn c.args.l.now (lending_maps c.args.primary.now c.args.insertion.now
-    (length c.args.out.now))) c.args.log.now c.args.out.now
-    (space-none c.args.log.now (sym next_place.ensures ∙ c.in_default.is))
+pub returns-in_err-at : goal.returns-in_err-at
+returns-in_err-at c =
+    let p = err_from_is_err_and c.from_residual.result c.from_residual.ensures.1 in
+    let loans = lending_maps c.args.primary.now c.args.insertion.now (length c.args.out.now) in
+    rw (p.1, p.2) (begun-full (messages c.args.conn c.args.l.now loans) c.args.log.now c.args.out.now c.begin.new.m c.begin.ensures
+    c.in_err-at.was)
 
-pub pass-h-requires : goal.pass-h-requires
-pass-h-requires c =
-    let next_place = c.next_place-space in
-    record {
-      log_len_bound = (not_full c.args.log.now (space-from c.args.log.now (sym next_place.ensures ∙ c.in-From.is)).0).few;
-      width_in_bounds = omega arith;
-    }
+pub returns-in_err-head : goal.returns-in_err-head
+returns-in_err-head c =
+    let p = err_from_is_err_and c.from_residual-in_err-head.result c.from_residual-in_err-head.ensures.1 in
+    let l = c.args.log.now in
+    let b = begun-there l c.begin.new.m c.begin.ensures c.in_ok-at.was in
+    let loans = lending_maps c.args.primary.now c.args.insertion.now (length c.args.out.now) in
+    rw (p.1, p.2) (message-refused l (all-at Byte 0 l (λ i. search rules)) b.0 b.2 c.args.conn c.args.l.now loans
+    (framed-here b.2 c.args.conn c.args.l.now loans c.framed.ensures c.is_long.ensures c.in_err-head.was))
 
 pub feed-requires : goal.feed-requires
-feed-requires c =
-    let pass = c.pass-h in
-    omega (arith, pass.ensures.fits)
+feed-requires c = omega (arith, (begun-there c.args.log.now c.begin.new.m c.begin.ensures c.in_ok-at.was).2.fits)
 
 pub data_of-d-requires : goal.data_of-d-requires
 data_of-d-requires c =
-    let next_place = c.next_place-space in
-    let pass = c.pass-h in
-    let is-long = c.is_long in
-    let framed = c.framed in
-    (message-within c.args.log.now (all-at Byte 0 c.args.log.now (λ i. search rules))
-    (space-from c.args.log.now (sym next_place.ensures ∙ c.in-From.is)).0 pass.ensures c.args.conn
-    c.args.l.now (lending_maps c.args.primary.now c.args.insertion.now (length c.args.out.now))
-    (framed-here pass.ensures c.args.conn c.args.l.now
-    (lending_maps c.args.primary.now c.args.insertion.now (length c.args.out.now)) framed.ensures is-long.ensures
-    c.in-Framed.is)).0
+    let l = c.args.log.now in
+    let b = begun-there l c.begin.new.m c.begin.ensures c.in_ok-at.was in
+    let loans = lending_maps c.args.primary.now c.args.insertion.now (length c.args.out.now) in
+    (message-within l (all-at Byte 0 l (λ i. search rules)) b.0 b.2 c.args.conn c.args.l.now loans
+    (framed-here b.2 c.args.conn c.args.l.now loans c.framed.ensures c.is_long.ensures c.in_ok-head.was)).0
 
 pub hear-g-requires : goal.hear-g-requires
 hear-g-requires c =
-    let next_place = c.next_place-space in
-    let pass = c.pass-h in
-    let is-long = c.is_long in
-    let framed = c.framed in
-    record {
-      ready = passed-ready pass.ensures;
-      fits = pass.ensures.fits;
-      conn_bound = (message-low c.args.log.now
-          (all-at Byte 0 c.args.log.now (λ i. search rules))
-          (space-from c.args.log.now (sym next_place.ensures ∙ c.in-From.is)).0 pass.ensures c.args.conn
-          c.args.l.now (lending_maps c.args.primary.now c.args.insertion.now (length c.args.out.now))
-          (framed-here pass.ensures c.args.conn c.args.l.now
-          (lending_maps c.args.primary.now c.args.insertion.now (length c.args.out.now)) framed.ensures
-          is-long.ensures
-          c.in-Framed.is)).0;
-      card_room_in_bounds = (message-low c.args.log.now
-          (all-at Byte 0 c.args.log.now (λ i. search rules))
-          (space-from c.args.log.now (sym next_place.ensures ∙ c.in-From.is)).0 pass.ensures c.args.conn
-          c.args.l.now (lending_maps c.args.primary.now c.args.insertion.now (length c.args.out.now))
-          (framed-here pass.ensures c.args.conn c.args.l.now
-          (lending_maps c.args.primary.now c.args.insertion.now (length c.args.out.now)) framed.ensures
-          is-long.ensures
-          c.in-Framed.is)).1;
-    }
+    let l = c.args.log.now in
+    let b = begun-there l c.begin.new.m c.begin.ensures c.in_ok-at.was in
+    let loans = lending_maps c.args.primary.now c.args.insertion.now (length c.args.out.now) in
+    let low = (message-low l (all-at Byte 0 l (λ i. search rules)) b.0 b.2 c.args.conn c.args.l.now loans
+    (framed-here b.2 c.args.conn c.args.l.now loans c.framed.ensures c.is_long.ensures c.in_ok-head.was)) in
+    record { ready = passed-ready b.2; fits = b.2.fits; conn_bound = low.0; card_room_in_bounds = low.1 }
 
 pub finish-len-requires : goal.finish-len-requires
 finish-len-requires c =
-    let low = (
-    let pass = c.pass-h in
-    let framed = c.framed in
+    let l = c.args.log.now in
+    let b = begun-there l c.begin.new.m c.begin.ensures c.in_ok-at.was in
     let loans = lending_maps c.args.primary.now c.args.insertion.now (length c.args.out.now) in
-    message-low c.args.log.now (all-at Byte 0 c.args.log.now (λ i. search rules))
-    (space-from c.args.log.now (sym c.next_place-space.ensures ∙ c.in-From.is)).0 pass.ensures c.args.conn
-    c.args.l.now loans
-    (framed-here pass.ensures c.args.conn c.args.l.now loans framed.ensures c.is_long.ensures c.in-Framed.is)
-    ) in
-    let placed = (
-    c.pass-h.ensures.placed
-    ) in
-    let short = (
-    let feed = c.feed in
-    let map-on-air = c.map_on_air-section in
+    let low = (message-low l (all-at Byte 0 l (λ i. search rules)) b.0 b.2 c.args.conn c.args.l.now loans
+    (framed-here b.2 c.args.conn c.args.l.now loans c.framed.ensures c.is_long.ensures c.in_ok-head.was)) in
     let both = both-short c.args.primary.now c.args.insertion.now low.2 in
-    subst (λ (x : List ℕ). length x ≤ longest_section)
-    (sym (ap (λ x. x.now) map-on-air.ensures
-    ∙ chosen (λ x. x.now) (eqb feed.result 0) c.args.primary c.args.insertion))
-    (brief (eqb feed.result 0) c.args.primary.now c.args.insertion.now both.0 both.1)
-    ) in
-    let w : (
-    4096 ≤ length c.args.out.now
-    ) = low.1 in
-    record { conn_bound = low.0; all = placed; section_len_bound = short; card_room_in_bounds = search rules }
+    let w : 4096 ≤ length c.args.out.now = low.1 in
+    record {
+      conn_bound = low.0;
+      all = b.2.placed;
+      section_len_bound =
+          subst (λ (x : List ℕ). length x ≤ longest_section)
+          (sym (ap (λ x. x.now) c.map_on_air-section.ensures ∙ chosen (λ x. x.now) (eqb c.feed.result 0) c.args.primary c.args.insertion))
+          (brief (eqb c.feed.result 0) c.args.primary.now c.args.insertion.now both.0 both.1);
+      card_room_in_bounds = search rules;
+    }
 
 pub overflow_cast-conn : goal.overflow_cast-conn
 overflow_cast-conn c =
-    let next_place = c.next_place-space in
-    let pass = c.pass-h in
-    let is-long = c.is_long in
-    let framed = c.framed in
+    let l = c.args.log.now in
+    let b = begun-there l c.begin.new.m c.begin.ensures c.in_ok-at.was in
+    let loans = lending_maps c.args.primary.now c.args.insertion.now (length c.args.out.now) in
     omega (
       arith,
-      (message-low c.args.log.now (all-at Byte 0 c.args.log.now (λ i. search rules))
-          (space-from c.args.log.now (sym next_place.ensures ∙ c.in-From.is)).0 pass.ensures c.args.conn
-          c.args.l.now (lending_maps c.args.primary.now c.args.insertion.now (length c.args.out.now))
-          (framed-here pass.ensures c.args.conn c.args.l.now
-          (lending_maps c.args.primary.now c.args.insertion.now (length c.args.out.now)) framed.ensures is-long.ensures
-          c.in-Framed.is)).0,
+      (message-low l (all-at Byte 0 l (λ i. search rules)) b.0 b.2 c.args.conn c.args.l.now loans
+          (framed-here b.2 c.args.conn c.args.l.now loans c.framed.ensures c.is_long.ensures c.in_ok-head.was)).0,
     )
 
 pub keep_message-requires : goal.keep_message-requires
 keep_message-requires c =
-    let next_place = c.next_place-space in
-    let pass = c.pass-h in
-    let is-long = c.is_long in
-    let framed = c.framed in
-    record {
-      behind = (space-from c.args.log.now (sym next_place.ensures ∙ c.in-From.is)).1;
-      size_le_largest_size
-          = (message-within c.args.log.now (all-at Byte 0 c.args.log.now (λ i. search rules))
-          (space-from c.args.log.now (sym next_place.ensures ∙ c.in-From.is)).0 pass.ensures c.args.conn
-          c.args.l.now (lending_maps c.args.primary.now c.args.insertion.now (length c.args.out.now))
-          (framed-here pass.ensures c.args.conn c.args.l.now
-          (lending_maps c.args.primary.now c.args.insertion.now (length c.args.out.now)) framed.ensures
-          is-long.ensures
-          c.in-Framed.is)).1;
-      size_in_bounds = (message-within c.args.log.now (all-at Byte 0 c.args.log.now
-          (λ i. search rules)) (space-from c.args.log.now (sym next_place.ensures ∙ c.in-From.is)).0
-          pass.ensures c.args.conn c.args.l.now (lending_maps c.args.primary.now c.args.insertion.now
-          (length c.args.out.now)) (framed-here pass.ensures c.args.conn c.args.l.now
-          (lending_maps c.args.primary.now c.args.insertion.now (length c.args.out.now)) framed.ensures
-          is-long.ensures
-          c.in-Framed.is)).0;
-    }
+    let l = c.args.log.now in
+    let b = begun-there l c.begin.new.m c.begin.ensures c.in_ok-at.was in
+    let loans = lending_maps c.args.primary.now c.args.insertion.now (length c.args.out.now) in
+    let within = (message-within l (all-at Byte 0 l (λ i. search rules)) b.0 b.2 c.args.conn c.args.l.now loans
+    (framed-here b.2 c.args.conn c.args.l.now loans c.framed.ensures c.is_long.ensures c.in_ok-head.was)) in
+    record { behind = b.1; size_le_largest_size = within.1; size_in_bounds = within.0 }
 
-pub overflow_cast-result : goal.overflow_cast-result
-overflow_cast-result c =
-    let next_place = c.next_place-space in
-    let pass = c.pass-h in
-    let is-long = c.is_long in
-    let framed = c.framed in
-    omega (
-      arith,
-      (message-within c.args.log.now (all-at Byte 0 c.args.log.now (λ i. search rules))
-          (space-from c.args.log.now (sym next_place.ensures ∙ c.in-From.is)).0 pass.ensures c.args.conn
-          c.args.l.now (lending_maps c.args.primary.now c.args.insertion.now (length c.args.out.now))
-          (framed-here pass.ensures c.args.conn c.args.l.now
-          (lending_maps c.args.primary.now c.args.insertion.now (length c.args.out.now)) framed.ensures is-long.ensures
-          c.in-Framed.is)).1,
-    )
-
-pub overflow_add-result : goal.overflow_add-result
-overflow_add-result c =
-    let next_place = c.next_place-space in
-    let pass = c.pass-h in
-    let is-long = c.is_long in
-    let framed = c.framed in
-    omega (
-      arith,
-      (message-within c.args.log.now (all-at Byte 0 c.args.log.now (λ i. search rules))
-          (space-from c.args.log.now (sym next_place.ensures ∙ c.in-From.is)).0 pass.ensures c.args.conn
-          c.args.l.now (lending_maps c.args.primary.now c.args.insertion.now (length c.args.out.now))
-          (framed-here pass.ensures c.args.conn c.args.l.now
-          (lending_maps c.args.primary.now c.args.insertion.now (length c.args.out.now)) framed.ensures is-long.ensures
-          c.in-Framed.is)).1,
-    )
-
-pub returns-in-Unframed : goal.returns-in-Unframed
-returns-in-Unframed c =
-    let next_place = c.next_place-space in
-    let pass = c.pass-h in
-    let is-long = c.is_long in
-    let framed = c.framed in
-    message-refused c.args.log.now (all-at Byte 0 c.args.log.now (λ i. search rules))
-    (space-from c.args.log.now (sym next_place.ensures ∙ c.in-From.is)).0 pass.ensures c.args.conn
-    c.args.l.now (lending_maps c.args.primary.now c.args.insertion.now (length c.args.out.now))
-    (framed-here pass.ensures c.args.conn c.args.l.now
-    (lending_maps c.args.primary.now c.args.insertion.now (length c.args.out.now)) framed.ensures is-long.ensures
-    c.in-Unframed.is)
-
-pub returns-in-Framed : goal.returns-in-Framed
-returns-in-Framed c =
-    let next_place = c.next_place-space in
-    let pass = c.pass-h in
-    let is-long = c.is_long in
-    let framed = c.framed in
-    let feed = c.feed in
-    let map-on-air = c.map_on_air-section in
-    let data_of = c.data_of-d in
-    let hear = c.hear-g in
-    let finish = c.finish-len in
-    let keep-message = c.keep_message in
-    message-whole c.args.log.now (all-at Byte 0 c.args.log.now (λ i. search rules))
-    (space-from c.args.log.now (sym next_place.ensures ∙ c.in-From.is)).0 pass.ensures c.args.conn
-    c.args.l.now (lending_maps c.args.primary.now c.args.insertion.now (length c.args.out.now))
-    (framed-here pass.ensures c.args.conn c.args.l.now
-    (lending_maps c.args.primary.now c.args.insertion.now (length c.args.out.now)) framed.ensures is-long.ensures
-    c.in-Framed.is) data_of.ensures ((ap (λ x. x.now) map-on-air.ensures
-    ∙ chosen (λ x. x.now) (eqb feed.result 0) c.args.primary c.args.insertion)
-    ∙ ap (λ (n : ℕ). cond (eqb n 0) c.args.primary.now c.args.insertion.now) feed.ensures) hear.ensures
-    finish.ensures keep-message.ensures
+pub returns : goal.returns
+returns c =
+    let l = c.args.log.now in
+    let b = begun-there l c.begin.new.m c.begin.ensures c.in_ok-at.was in
+    let loans = lending_maps c.args.primary.now c.args.insertion.now (length c.args.out.now) in
+    message-whole l (all-at Byte 0 l (λ i. search rules)) b.0 b.2 c.args.conn c.args.l.now loans
+    (framed-here b.2 c.args.conn c.args.l.now loans c.framed.ensures c.is_long.ensures c.in_ok-head.was) c.data_of-d.ensures
+    ((ap (λ x. x.now) c.map_on_air-section.ensures ∙ chosen (λ x. x.now) (eqb c.feed.result 0) c.args.primary c.args.insertion)
+    ∙ ap (λ (n : ℕ). cond (eqb n 0) c.args.primary.now c.args.insertion.now) c.feed.ensures) c.hear-g.ensures c.finish-len.ensures
+    c.keep_message.ensures

@@ -21,7 +21,7 @@ returns-then-r-eq100 c =
     let init-result = c.init_result-r in
     let init-response = c.init_response-len in
     init-done c.args.conn c.args.revision c.args.d.now c.args.out.now _
-    channel-name.ensures channel.ensures init-result.ensures init-response.ensures c.if-r-eq100.true c.requires.d_value
+    channel-name.ensures channel.ensures init-result.ensures init-response.ensures c.said.ensures c.if-r-eq100.true c.requires.d_value
 
 pub returns : goal.returns
 returns c =
@@ -30,4 +30,4 @@ returns c =
     let init-result = c.init_result-r in
     let init-response = c.init_response-len in
     init-failed c.args.conn c.args.revision c.args.d.now c.args.out.now _
-    channel-name.ensures channel.ensures init-result.ensures init-response.ensures c.if-r-eq100.false
+    channel-name.ensures channel.ensures init-result.ensures init-response.ensures c.said-2.ensures c.if-r-eq100.false

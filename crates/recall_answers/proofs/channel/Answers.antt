@@ -5,4 +5,4 @@ use Rattle.recall_answers.proofs.channel.Goals as goal
 
 pub returns : goal.returns
 unfolding card_name
-returns c = refl
+returns c = rw c.copy_from_slice.ensures.after refl

@@ -1,42 +1,40 @@
-use mathlib.Core.Path.{sym, ◌∙◌}
-use Prim.Native.Nat.{◌<◌}
+use mathlib.Core.Path.{◌≡◌, refl, sym, subst, ◌∙◌}
+use Prim.Native.Nat.{◌+◌, ◌-◌}
 use native.Mathlib.Omega.{arith}
-use Rattle.recall_ends.specs.Does.{all}
-use Rattle.recall_answers.proofs.Extended.{ends-counted, seek-none, seek-more, seek_hit, seek-full, seek-out}
+use Rattle.recall_rules.specs.Verdicts.{has_ended}
+use Rattle.recall_rows.specs.Rows.{all}
+use Rattle.recall_rows.proofs.Scans.{count-all}
+use Rattle.recall_answers.proofs.Extended.{Seeking, seek-none, seek-more, seek_hit, seek-end, unused-by}
 use Rattle.recall_answers.proofs.latest_end.Goals as goal
 
-pub loop-left-init : goal.loop-left-init
-loop-left-init c =
-    let rows = c.rows_in-n in
-    seek-none c.args.conn c.args.id (all c.args.m.now)
-    (ends-counted c.args.m.now rows.result rows.ensures c.count-number.ensures)
+pub loop-number-init : goal.loop-number-init
+loop-number-init c =
+    let l = all c.args.m.now in
+    let n = c.count-ended.result in
+    let k : n + 16 - n ≡ 16 = omega arith in
+    subst (Seeking c.args.conn c.args.id l n) (sym k) (seek-none c.args.conn c.args.id l (c.count-ended.ensures ∙ count-all has_ended l))
 
 pub returns-then-is_past : goal.returns-then-is_past
 returns-then-is_past c =
-    let nth = c.nth_end-e in
-    let loop = c.loop-left in
-    let ended : 0 < loop.number = c.if-number-gt0.true in
-    let more : 0 < loop.left = c.loop-left-test.true in
-    seek_hit c.args.conn c.args.id (all c.args.m.now) loop.number loop.left ended more loop.invariant nth.ensures
+    let n = c.loop-number.number in
+    seek_hit c.args.conn c.args.id (all c.args.m.now) n (n + 16 - c.count-ended.result) (omega arith)
+    (omega (arith, c.saturating_sub-number-start.ensures, c.loop-number-test.true)) c.loop-number.invariant c.nth_end-e.ensures
     (sym c.is_past.ensures ∙ c.if-is_past.true)
 
-pub loop-left-preserved : goal.loop-left-preserved
-loop-left-preserved c =
-    let nth = c.nth_end-e in
-    let loop = c.loop-left in
-    let ended : 0 < loop.number = c.if-number-gt0.true in
-    let more : 0 < loop.left = c.loop-left-test.true in
-    seek-more c.args.conn c.args.id (all c.args.m.now) loop.number loop.left ended more loop.invariant nth.ensures
-    (sym c.is_past.ensures ∙ c.if-is_past.false)
+pub loop-number-preserved : goal.loop-number-preserved
+loop-number-preserved c =
+    let l = all c.args.m.now in
+    let n = c.loop-number.number in
+    let ended = c.count-ended.result in
+    let k : n + 16 - ended - 1 ≡ n - 1 + 16 - ended = omega (arith, c.saturating_sub-number-start.ensures, c.loop-number-test.true) in
+    subst (Seeking c.args.conn c.args.id l (n - 1)) k
+    (seek-more c.args.conn c.args.id l n (n + 16 - ended) (omega arith)
+    (omega (arith, c.saturating_sub-number-start.ensures, c.loop-number-test.true)) c.loop-number.invariant c.nth_end-e.ensures
+    (sym c.is_past.ensures ∙ c.if-is_past.false))
 
-pub returns-else-number-gt0 : goal.returns-else-number-gt0
-returns-else-number-gt0 c =
-    let loop = c.loop-left in
-    seek-out c.args.conn c.args.id (all c.args.m.now) loop.number loop.left
-    (omega (arith, c.if-number-gt0.false)) loop.invariant
-
-pub returns-after-loop-left : goal.returns-after-loop-left
-returns-after-loop-left c =
-    let loop = c.loop-left in
-    seek-full c.args.conn c.args.id (all c.args.m.now) loop.number loop.left (omega (arith, c.loop-left-test.false))
-    loop.invariant
+pub returns : goal.returns
+returns c =
+    let n = c.loop-number.number in
+    unused-by c.default.result c.default.ensures
+    ∙ seek-end c.args.conn c.args.id (all c.args.m.now) n (n + 16 - c.count-ended.result) c.count-ended.result
+    (omega (arith, c.saturating_sub-number-start.ensures, c.loop-number-test.false)) refl c.loop-number.invariant

@@ -1,23 +1,17 @@
 -- What the row of that end says, or what an empty one does (`nth-found`, `nth-none`). Rests on what `find_end` promises.
-use native.Mathlib.Omega.{arith}
-use Rattle.recall_ends.specs.Does.{all}
-use Rattle.recall_ends.proofs.Laws.{length-all}
-use Rattle.recall_instants.proofs.Words.{read}
-use Rattle.recall_answers.proofs.Extended.{nth-found, nth-none}
+use mathlib.Core.Path.{refl, ◌∙◌}
+use Rattle.recall_rows.specs.Rows.{all}
+use Rattle.recall_rows.proofs.Scans.{found, missing}
+use Rattle.recall_answers.proofs.Extended.{unused-by, nth-found, nth-none}
 use Rattle.recall_answers.proofs.nth_end.Goals as goal
 
-pub returns-then-i-n : goal.returns-then-i-n
-returns-then-i-n c =
-    let load = c.load-v in
-    let find = c.find_end-i in
-    let rows = c.rows_in-n in
-    let at = read c.args.m.now rows.result rows.ensures find.result load.result load.ensures in
-    nth-found c.args.number find.result (all c.args.m.now) find.ensures load.result at
-    c.result_in.ensures c.to_long_ticks.ensures
+pub returns-in_default : goal.returns-in_default
+returns-in_default c =
+    let l = all c.args.m.now in
+    unused-by c.default.result c.default.ensures ∙ nth-none c.args.number _ l refl (missing l c.find_end.ensures.first c.in_default.is)
 
 pub returns : goal.returns
 returns c =
-    let find = c.find_end-i in
-    let rows = c.rows_in-n in
-    nth-none c.args.number find.result (all c.args.m.now) find.ensures
-    (omega (arith, length-all c.args.m.now, rows.ensures, c.if-i-n.false))
+    let l = all c.args.m.now in
+    nth-found c.args.number c.in-Some.i l (found l c.find_end.ensures.first c.in-Some.is).0 c.load-v.result c.load-v.ensures
+    c.result_in.ensures c.to_long_ticks.ensures

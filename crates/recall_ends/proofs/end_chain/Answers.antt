@@ -1,38 +1,29 @@
 -- Its own end, then its followers' (`chain-is`). Rests on what `end_one` and `dismiss` promise.
-use Rattle.recall_rules.specs.Work.{dismissed}
-use Rattle.recall_ends.specs.Does.{all, one_over, chain_over}
-use Rattle.recall_ends.proofs.Laws.{chain-is, first-room, second-room, both-done}
 use borrow.Author.Rules.{rules}
+use Rattle.recall_rules.specs.Work.{dismissed}
+use Rattle.recall_ends.specs.Does.{all, one_over}
+use Rattle.recall_ends.proofs.Laws.{loaded, chain-is, first-room, next-room, both-done}
 use Rattle.recall_ends.proofs.end_chain.Goals as goal
 
-pub end_one-to-requires : goal.end_one-to-requires
-end_one-to-requires c =
+pub end_one-to-requires-clause-room : goal.end_one-to-requires-clause-room
+end_one-to-requires-clause-room c =
     let a = c.args in
-    let x = c.conn_at-conn in
-    let y = c.id_at-id in
-    let l = all a.m.now in record {
-      i_in_bounds = c.requires.i_in_bounds;
-      room = first-room (chain_over a.how a.res a.i) (one_over a.how a.i) (dismissed a.res x.result y.result)
-          a.m.now a.out.now a.len (chain-is a.how a.res a.i x.result y.result l x.ensures y.ensures)
-          c.requires.room;
-    }
+    let x = c.load.result.session in
+    let chain = chain-is a.how a.res a.i x (all a.m.now) (loaded a.i a.m.now c.load.result c.load.ensures) in
+    first-room (one_over a.how a.i (all a.m.now)) (dismissed a.res x.conn x.id) chain a.out.now a.len c.requires.room
 
 pub dismiss-requires : goal.dismiss-requires
 dismiss-requires c =
     let a = c.args in
-    let x = c.conn_at-conn in
-    let y = c.id_at-id in
-    let l = all a.m.now in
-    second-room (chain_over a.how a.res a.i) (one_over a.how a.i) (dismissed a.res x.result y.result)
-    a.m.now a.out.now a.len (chain-is a.how a.res a.i x.result y.result l x.ensures y.ensures)
-    c.requires.room c.end_one-to.ensures (search rules)
+    let x = c.load.result.session in
+    let chain = chain-is a.how a.res a.i x (all a.m.now) (loaded a.i a.m.now c.load.result c.load.ensures) in
+    next-room (one_over a.how a.i (all a.m.now)) (dismissed a.res x.conn x.id) chain a.out.now a.len c.requires.room c.end_one-to.ensures
+    (search rules)
 
 pub returns : goal.returns
 returns c =
     let a = c.args in
-    let x = c.conn_at-conn in
-    let y = c.id_at-id in
-    let l = all a.m.now in
-    both-done (chain_over a.how a.res a.i) (one_over a.how a.i) (dismissed a.res x.result y.result) a.m.now
-    a.out.now a.len (chain-is a.how a.res a.i x.result y.result l x.ensures y.ensures) c.requires.room
-    c.end_one-to.ensures c.dismiss.ensures
+    let x = c.load.result.session in
+    let chain = chain-is a.how a.res a.i x (all a.m.now) (loaded a.i a.m.now c.load.result c.load.ensures) in
+    both-done (one_over a.how a.i (all a.m.now)) (dismissed a.res x.conn x.id) chain a.out.now a.len c.requires.room c.end_one-to.ensures
+    c.dismiss.ensures

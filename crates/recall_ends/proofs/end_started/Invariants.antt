@@ -10,8 +10,8 @@ use Rattle.recall_ends.proofs.end_started.Given as goal
 
 abbrev pub invariant-loop-i : goal.invariant-loop-i
 invariant-loop-i l =
-    Loop has_started started-shut higher (session_test l.test) (by_access l.top l.air l.cover) l.initial.m l.initial.out l.len l.n l.m
-    l.out l.to l.i
+    Loop has_started started-shut higher (session_test l.test) (by_access l.top l.air l.cover) l.initial.m l.initial.out l.len
+    l.m l.out l.to
 
 abbrev pub decreases-loop-i : goal.decreases-loop-i
 decreases-loop-i l = many has_started started-shut (all l.m)

@@ -9,8 +9,7 @@ use Rattle.recall_ends.proofs.Loops.{Loop}
 use Rattle.recall_ends.proofs.end_waiting.Given as goal
 
 abbrev pub invariant-loop-i : goal.invariant-loop-i
-invariant-loop-i l =
-    Loop is_waiting waiting-shut earlier (session_test l.test) (λ s. l.how) l.initial.m l.initial.out l.len l.n l.m l.out l.to l.i
+invariant-loop-i l = Loop is_waiting waiting-shut earlier (session_test l.test) (λ s. l.how) l.initial.m l.initial.out l.len l.m l.out l.to
 
 abbrev pub decreases-loop-i : goal.decreases-loop-i
 decreases-loop-i l = many is_waiting waiting-shut (all l.m)

@@ -1,57 +1,26 @@
 -- The one found, or none (`evicted-one`, `evicted-none`). Rests on what `end_chain` and recall_rows promise.
-use mathlib.Core.Path.{◌≡◌, sym, ap, subst, ◌∙◌}
-use Prim.Native.Nat.{ℕ, ◌+◌, ◌≤◌, ◌<◌}
-use native.Mathlib.Omega.{arith}
-use lib.ListN.{length}
+use mathlib.Core.Path.{refl}
 use Rattle.rules.specs.State.{starts_at}
-use Rattle.rules.specs.Records.{output}
 use Rattle.recall_rules.specs.Verdicts.{is_waiting, which}
-use Rattle.recall_rules.specs.Work.{Turn}
-use Rattle.recall_rows.specs.Rows.{verdicts_in}
-use Rattle.recall_ends.specs.Does.{all, Turns}
-use Rattle.recall_ends.proofs.Laws.{length-all, evicted-one, evicted-none, evicted-does, turns-quiet}
+use Rattle.recall_rows.proofs.Scans.{found, missing}
+use Rattle.recall_ends.specs.Does.{all}
+use Rattle.recall_ends.proofs.Laws.{evicted-one, evicted-none, turns-quiet, as_room, as-done}
 use Rattle.recall_ends.proofs.evict.Goals as goal
 
-pub end_chain-requires : goal.end_chain-requires
-end_chain-requires c =
+pub end_chain-requires-clause-room : goal.end_chain-requires-clause-room
+end_chain-requires-clause-room c =
     let a = c.args in
-    let l = all a.m.now in
-    let i = c.find-i.result in
-    let f : i ≡ which is_waiting (starts_at a.t) l = c.find-i.ensures
-    ∙ ap (λ (n : ℕ). which is_waiting (starts_at a.t) (verdicts_in n a.m.now))
-    c.rows_in-n.ensures in
-    let h : i < length l = omega (
-      arith,
-      c.if-i-n.true,
-      c.rows_in-n.ensures,
-      length-all a.m.now,
-    ) in record {
-      i_in_bounds = omega (arith, h, length-all a.m.now);
-      room = subst (λ (t : Turn). a.len + length (output t.written) ≤ length a.out.now)
-          (evicted-one a.t i l f h) c.requires;
-    }
+    let f = found (all a.m.now) c.find.ensures.first c.in-Some.is in
+    as_room (evicted-one a.t c.in-Some.i (all a.m.now) f.0 f.1) a.out.now a.len c.requires
 
-pub returns-then-i-n : goal.returns-then-i-n
-returns-then-i-n c =
+pub returns-in-Some : goal.returns-in-Some
+returns-in-Some c =
     let a = c.args in
-    let l = all a.m.now in
-    let i = c.find-i.result in
-    let f : i ≡ which is_waiting (starts_at a.t) l = c.find-i.ensures
-    ∙ ap (λ (n : ℕ). which is_waiting (starts_at a.t) (verdicts_in n a.m.now)) c.rows_in-n.ensures in
-    let h : i < length l = omega (
-      arith,
-      c.if-i-n.true,
-      c.rows_in-n.ensures,
-      length-all a.m.now,
-    ) in
-    evicted-does a.t i a.m.now f h c.end_chain.ensures
+    let f = found (all a.m.now) c.find.ensures.first c.in-Some.is in
+    as-done (evicted-one a.t c.in-Some.i (all a.m.now) f.0 f.1) c.end_chain.ensures
 
-pub returns : goal.returns
-returns c =
-    let a = c.args in
-    let l = all a.m.now in
-    let i = c.find-i.result in
-    let f : i ≡ which is_waiting (starts_at a.t) l = c.find-i.ensures
-    ∙ ap (λ (n : ℕ). which is_waiting (starts_at a.t) (verdicts_in n a.m.now)) c.rows_in-n.ensures in
-    let h : length l ≤ i = omega (arith, c.if-i-n.false, c.rows_in-n.ensures, length-all a.m.now) in
-    subst (λ (t : Turn). Turns a.out.now a.len t a.m.now a.len a.out.now) (sym (evicted-none a.t i l f h)) turns-quiet
+pub returns-in-None : goal.returns-in-None
+returns-in-None c =
+    let t = c.args.t in
+    let l = all c.args.m.now in
+    as-done (evicted-none t (which is_waiting (starts_at t) l) l refl (missing l c.find.ensures.first c.in-None.is)) turns-quiet

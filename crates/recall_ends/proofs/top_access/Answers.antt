@@ -1,14 +1,9 @@
 -- The first of the started that none is higher than, if any (`top-found`, `top-none`). Rests on what recall_rows promises.
-use native.Mathlib.Omega.{arith}
 use Rattle.recall_ends.proofs.Stages.{top-found, top-none}
 use Rattle.recall_ends.proofs.top_access.Goals as goal
 
-pub returns-then-i-n : goal.returns-then-i-n
-returns-then-i-n c =
-    top-found c.rows_in-n.result c.first_of-i.result c.args.m.now c.load-v.result
-    c.rows_in-n.ensures c.first_of-i.ensures c.load-v.ensures
+pub returns-in-Some : goal.returns-in-Some
+returns-in-Some c = top-found c.args.m.now c.first_of.ensures.first c.in-Some.is c.load.ensures
 
-pub returns : goal.returns
-returns c =
-    top-none c.rows_in-n.result c.first_of-i.result c.args.m.now c.rows_in-n.ensures
-    c.first_of-i.ensures (omega (arith, c.if-i-n.false))
+pub returns-in-None : goal.returns-in-None
+returns-in-None c = top-none c.args.m.now c.first_of.ensures.first c.in-None.is

@@ -18,11 +18,9 @@ pub returns : goal.returns
 returns c =
     let x = c.args.x in
     let k = c.match-how in
-    let q : record_bytes (SpliceComplete x.conn k.result x.id k.flag k.played.0) ≡ record_bytes (ended c.args.how x) =
+    let q : record_bytes (SpliceComplete x.conn k.result.0 x.id k.result.1 k.result.2.0) ≡ record_bytes (ended c.args.how x) =
     elim k.branch [
-      | in-Complete w ↦ rw (w.result-is, w.flag-is, w.played-is, w.to_ticks-played.ensures, w.in-Complete.is)
-          (complete-bytes x.conn _ x.id 1 x.played.0)
-      | in_default w ↦
-          rw (w.result-is, w.flag-is, w.played-is, failing c.args.how c.requires.completing w.in_default.not-Complete) refl
+      | in-Complete w ↦ rw (w.result-is, w.to_ticks.ensures, w.in-Complete.is) (complete-bytes x.conn _ x.id 1 x.played.0)
+      | in_default w ↦ rw (w.result-is, failing c.args.how c.requires.completing w.in_default.not-Complete) refl
     ] in
     tells-same q (tells-part (omega (arith, c.requires.x_in_bounds)) c.splice_complete.ensures)

@@ -1,44 +1,26 @@
+use mathlib.Core.Path.{sym, subst, ◌∙◌}
+use Prim.Native.Nat.{◌+◌}
 use native.Mathlib.Omega.{arith}
-use Rattle.recall_log.proofs.Reading.{counting-none, counting-end, counting-within, counting_more}
+use Rattle.recall_log.proofs.Reading.{Counting, walk-within, counting-none, counting-end, counting_more}
 use Rattle.recall_log.proofs.count.Goals as goal
 
-pub loop-at-init : goal.loop-at-init
-loop-at-init c = counting-none _
-
-pub returns-then-k-eq0 : goal.returns-then-k-eq0
-returns-then-k-eq0 c =
-    let loop = c.loop-at in
-    let span = c.span_of-k.ensures in
-    let r = c.record_at.ensures in
-    counting-end loop.invariant r span c.if-k-eq0.true
+pub loop-r-init : goal.loop-r-init
+loop-r-init c = counting-none _
 
 pub overflow_add-at : goal.overflow_add-at
 overflow_add-at c =
-    let loop = c.loop-at in
-    let span = c.span_of-k.ensures in
-    let r = c.record_at.ensures in
-    let w = counting-within loop.invariant r span c.if-k-eq0.false in
-    omega arith
+    let w = walk-within _ _ c.loop-r.invariant.there (sym c.record_at.ensures ∙ c.in-Some.is) in
+    omega (arith, c.span_of-at.ensures)
 
-pub overflow_add-n : goal.overflow_add-n
-overflow_add-n c =
-    let loop = c.loop-at in
-    let span = c.span_of-k.ensures in
-    let r = c.record_at.ensures in
-    let w = counting-within loop.invariant r span c.if-k-eq0.false in
-    omega (arith, loop.invariant.few)
+pub loop-r-smaller : goal.loop-r-smaller
+loop-r-smaller c =
+    let w = walk-within _ _ c.loop-r.invariant.there (sym c.record_at.ensures ∙ c.in-Some.is) in
+    omega (arith, c.span_of-at.ensures)
 
-pub loop-at-smaller : goal.loop-at-smaller
-loop-at-smaller c =
-    let loop = c.loop-at in
-    let span = c.span_of-k.ensures in
-    let r = c.record_at.ensures in
-    let w = counting-within loop.invariant r span c.if-k-eq0.false in
-    omega arith
+pub loop-r-preserved : goal.loop-r-preserved
+loop-r-preserved c =
+    subst (λ i. Counting c.args.l.now (c.loop-r.at + i) (c.loop-r.n + 1)) (sym c.span_of-at.ensures)
+    (counting_more c.loop-r.invariant (sym c.record_at.ensures ∙ c.in-Some.is))
 
-pub loop-at-preserved : goal.loop-at-preserved
-loop-at-preserved c =
-    let loop = c.loop-at in
-    let span = c.span_of-k.ensures in
-    let r = c.record_at.ensures in
-    counting_more loop.invariant r span c.if-k-eq0.false
+pub returns : goal.returns
+returns c = counting-end c.loop-r.invariant (sym c.record_at.ensures ∙ c.in_default.is)

@@ -5,8 +5,8 @@ use lib.ListN.{length}
 use Rattle.recall_log.proofs.Reading.{Counting}
 use Rattle.recall_log.proofs.count.Given as goal
 
-abbrev pub invariant-loop-at : goal.invariant-loop-at
-invariant-loop-at l = Counting l.l l.at l.n
+abbrev pub invariant-loop-r : goal.invariant-loop-r
+invariant-loop-r l = Counting l.l l.at l.n
 
-abbrev pub decreases-loop-at : goal.decreases-loop-at
-decreases-loop-at l = length l.l - l.at
+abbrev pub decreases-loop-r : goal.decreases-loop-r
+decreases-loop-r l = length l.l - l.at

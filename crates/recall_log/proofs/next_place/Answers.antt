@@ -3,7 +3,7 @@
 use mathlib.Core.Path.{sym, ap, ◌∙◌}
 use native.Mathlib.Omega.{arith}
 use borrow.Author.Tests.{lt-ltb, le-ltb}
-use Rattle.recall_log.specs.declared.Space.TheVariants.{From}
+use Rattle.std.specs.Prelude.{Some}
 use Rattle.recall_log.specs.Log.{free, longest_record}
 use Rattle.recall_log.proofs.Walks.{within}
 use Rattle.recall_log.proofs.Logs.{full-length, full-calls, full-space, place_none, place-from}
@@ -36,5 +36,5 @@ returns c =
     let l = c.args.l.now in
     let n = c.count-h.ensures in
     let e = c.if-l-ne-LOG.false in
-    ap From n.taken ∙ sym (place-from l (full-space l e (omega (arith, n.calls))
+    ap (λ x. Some x) n.taken ∙ sym (place-from l (full-space l e (omega (arith, n.calls))
     ∙ le-ltb (free l) longest_record (omega (arith, n.taken))))

@@ -1,4 +1,4 @@
--- Words and places that are all 0 (`begins`).
+-- Closed connections, and no place (`begins`).
 use Rattle.recall_pass.proofs.Calls.{begins}
 use Rattle.recall_pass.proofs.begun.Goals as goal
 

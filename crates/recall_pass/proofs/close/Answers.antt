@@ -1,37 +1,24 @@
 -- Each return is one law of proofs/Calls. The room for the records comes from what the verdicts show (`close-room`).
 use mathlib.Core.Path.{sym, ap, ◌∙◌}
-use native.Mathlib.Omega.{arith}
+use mathlib.Core.List.{[]}
 use Prim.Native.Nat.{◌*◌}
-use Rattle.recall_pass.specs.Passes.{replaced}
 use lib.Seq.{length-take-le}
-use Rattle.rules.specs.State.{is_open}
+use Rattle.std.specs.Prelude.{None}
+use Rattle.std.proofs.lemmas.Result.{err_from_is_err_and}
+use Rattle.recall_answers.specs.Replies.{hardwares}
 use Rattle.recall_rows.specs.Rows.{width}
-use Rattle.recall_pass.proofs.Calls.{not-closed, close-room, shuts-none, shuts-small, shuts-shut, shuts}
+use Rattle.recall_pass.specs.Passes.{rows_of, replaced}
+use Rattle.recall_pass.proofs.Calls.{close-room, shuts-bad, shuts, tested-low, plays-as}
 use Rattle.recall_pass.proofs.close.Goals as goal
 
-pub returns-then-conn-gt3 : goal.returns-then-conn-gt3
-returns-then-conn-gt3 c =
-    let if1 = c.if-conn-gt3 in
-    let refused = c.refused in
-    λ l. shuts-none c.args.conn c.args.h c.args.m.now c.args.out.now c.requires.fits l (omega (arith, if1.true))
-    refused.ensures
-
-pub returns-then-out-lt4096 : goal.returns-then-out-lt4096
-returns-then-out-lt4096 c =
-    let if1 = c.if-conn-gt3 in
-    let if2 = c.if-out-lt4096 in
-    let refused2 = c.refused-then-out-lt4096 in
-    λ l. shuts-small c.args.conn c.args.h c.args.m.now c.args.out.now c.requires.fits l (omega (arith, if1.false))
-    (omega (arith, if2.true)) refused2.ensures
-
-pub returns-in-Closed : goal.returns-in-Closed
-returns-in-Closed c =
-    let if1 = c.if-conn-gt3 in
-    let if2 = c.if-out-lt4096 in
-    let link-of = c.link_of-link in
-    let refused3 = c.refused-in-Closed in
-    λ l. shuts-shut c.args.conn c.args.h c.args.m.now c.args.out.now c.requires.fits l (omega (arith, if1.false))
-    (omega (arith, if2.false)) link-of.result link-of.ensures (ap is_open c.in-Closed.is) refused3.ensures
+pub returns-in_err-tested : goal.returns-in_err-tested
+returns-in_err-tested c =
+    let p = err_from_is_err_and c.from_residual.result c.from_residual.ensures.1 in
+    let h = c.args.h in
+    let m = c.args.m.now in
+    λ l.
+    rw (p.1, p.2) (shuts-bad c.args.conn h m c.args.out.now c.requires.fits l (c.tested.ensures (hardwares l h) (rows_of h m))
+    c.in_err-tested.was)
 
 pub slice_bounds-close-end-2 : goal.slice_bounds-close-end-2
 slice_bounds-close-end-2 c =
@@ -39,17 +26,20 @@ slice_bounds-close-end-2 c =
 
 pub close-len-requires : goal.close-len-requires
 close-len-requires c =
-    let if2 = c.if-out-lt4096 in
-    close-room c.args.conn c.args.out.now c.requires.keeps (omega (arith, if2.false))
+    close-room c.args.conn c.args.out.now c.requires.keeps
+    (tested-low c.args.conn _ _ (c.tested.ensures [] []) c.in_ok-tested.was).1
+
+pub linked-requires : goal.linked-requires
+linked-requires c = (tested-low c.args.conn _ _ (c.tested.ensures [] []) c.in_ok-tested.was).0
+
+pub placed-requires : goal.placed-requires
+placed-requires c = (tested-low c.args.conn _ _ (c.tested.ensures [] []) c.in_ok-tested.was).0
 
 pub returns : goal.returns
 returns c =
-    let if1 = c.if-conn-gt3 in
-    let if2 = c.if-out-lt4096 in
-    let link-of = c.link_of-link in
-    let close = c.close-len in
-    let linked = c.linked in
-    let placed = c.placed in
-    λ l. shuts c.args.conn c.args.h c.args.m.now c.args.out.now c.requires.fits l (omega (arith, if1.false))
-    (omega (arith, if2.false)) link-of.result link-of.ensures (not-closed link-of.result c.in_default.not-Closed) close.auto.m
-    close.ensures (placed.ensures ∙ ap (λ x. replaced c.args.conn 0 x) linked.ensures)
+    let h = c.args.h in
+    let m = c.args.m.now in
+    λ l.
+    plays-as c.unmoved.ensures
+    (shuts c.args.conn h m c.args.out.now c.requires.fits l (c.tested.ensures (hardwares l h) (rows_of h m)) c.in_ok-tested.was
+    c.close-len.auto.m c.close-len.ensures (c.placed.ensures ∙ ap (λ x. replaced c.args.conn None x) c.linked.ensures))

@@ -5,8 +5,8 @@ use Rattle.recall_pass.proofs.Walks.{Walking}
 use Prim.Native.Nat.{◌-◌}
 use Rattle.recall_pass.proofs.pass.Given as goal
 
-abbrev pub invariant-loop-scratch : goal.invariant-loop-scratch
-invariant-loop-scratch l = Walking l.log l.h l.m l.at × (length l.m ≡ length l.initial.m) × (length l.scratch ≡ 4096)
+abbrev pub invariant-loop-record : goal.invariant-loop-record
+invariant-loop-record l = Walking l.log l.h l.m l.at × (length l.m ≡ length l.initial.m) × (length l.scratch ≡ 4096)
 
-abbrev pub decreases-loop-scratch : goal.decreases-loop-scratch
-decreases-loop-scratch l = length l.log - l.at
+abbrev pub decreases-loop-record : goal.decreases-loop-record
+decreases-loop-record l = length l.log - l.at

@@ -1,46 +1,46 @@
 -- Each arm is the call of its record (`led-open` and its like): what the four calls promise.
-use native.Mathlib.Omega.{arith}
-use Rattle.recall_pass.proofs.Walks.{message-within, led-open, led-close, led-tick, led-message, none-there}
+use mathlib.Core.Path.{sym, subst}
+use Rattle.recall_answers.specs.declared.Carried.{Carried}
+use Rattle.recall_rules.specs.Calls.{open_call, close_call, tick_call}
+use Rattle.recall_pass.specs.Passes.{pass_in, Leads}
+use lib.ListN.{length}
+use Rattle.recall_pass.proofs.Walks.{message-within, led-open, led-close, led-tick, led-message}
 use Rattle.recall_pass.proofs.play.Goals as goal
 
-pub play_message-requires : goal.play_message-requires
-play_message-requires c =
-    record {
-      ready = c.requires.ready;
-      fits = c.requires.fits;
-      from_nonzero = (
-        omega arith,
-        message-within c.args.log.now c.args.at c.requires.record_value.0 c.in-Message.is
-            c.requires.record_value.1 c.requires.record_value.2,
-      );
-      scratch_len = c.requires.scratch_len;
-    }
+pub play_message-requires-clause-from_in_bounds : goal.play_message-requires-clause-from_in_bounds
+play_message-requires-clause-from_in_bounds c =
+    message-within c.args.log.now c.args.at c.requires.record_value.0 c.in-Message.is c.requires.record_value.1
 
 pub returns-in-Open : goal.returns-in-Open
 returns-in-Open c =
-    let opened = c.open-p in
-    led-open c.args.log.now c.args.at c.requires.record_value.0 c.args.h c.args.m.now opened.result.carried
-    c.args.m.now c.in-Open.is (opened.ensures c.args.m.now c.args.scratch.now c.requires.ready.fits
-    c.args.log.now).leads
+    let log = c.args.log.now in
+    let h = c.args.h in
+    let m = c.args.m.now in
+    led-open log c.args.at c.requires.record_value.0 h m c.carried_by.result m c.in-Open.is
+    (subst (λ (r : Carried). Leads log h (open_call c.in-Open.c (pass_in log h m)) r m) (sym c.carried_by.ensures)
+    (c.open.ensures m c.args.scratch.now c.requires.ready.fits log).leads)
 
 pub returns-in-Close : goal.returns-in-Close
 returns-in-Close c =
-    let close = c.close-p in
-    led-close c.args.log.now c.args.at c.requires.record_value.0 c.args.h c.args.m.now close.result.carried
-    close.new.m c.in-Close.is c.requires.scratch_len (close.ensures c.args.log.now).leads
+    let log = c.args.log.now in
+    let h = c.args.h in
+    let m = c.args.m.now in
+    led-close log c.args.at c.requires.record_value.0 h m c.carried_by-in-Close.result c.close.new.m c.in-Close.is c.requires.scratch_len
+    (subst (λ (r : Carried). Leads log h (close_call c.in-Close.c (length c.args.scratch.now) (pass_in log h m)) r c.close.new.m)
+    (sym c.carried_by-in-Close.ensures) (c.close.ensures log).leads)
 
 pub returns-in-Message : goal.returns-in-Message
 returns-in-Message c =
-    let play-message = c.play_message in
-    led-message c.args.log.now c.args.at c.requires.record_value.0 c.args.h c.args.m.now play-message.result
-    play-message.new.m c.in-Message.is play-message.ensures
+    led-message c.args.log.now c.args.at c.requires.record_value.0 c.args.h c.args.m.now c.play_message.result
+    c.play_message.new.m c.in-Message.is c.play_message.ensures
 
 pub returns-in-Tick : goal.returns-in-Tick
 returns-in-Tick c =
-    let tick = c.tick-p in
-    led-tick c.args.log.now c.args.at c.requires.record_value.0 c.args.h c.args.m.now tick.result.carried tick.new.m
-    c.in-Tick.is c.requires.scratch_len (tick.ensures c.args.log.now).leads
-
-pub returns-in-None : goal.returns-in-None
-returns-in-None c =
-    absurd (none-there c.in-None.is c.requires.record_value.1)
+    let log = c.args.log.now in
+    let h = c.args.h in
+    let m = c.args.m.now in
+    led-tick log c.args.at c.requires.record_value.0 h m c.carried_by-in-Tick.result c.tick.new.m c.in-Tick.is c.requires.scratch_len
+    (subst
+    (λ (r : Carried). Leads log h (tick_call c.in-Tick.seconds c.in-Tick.micros (length c.args.scratch.now) (pass_in log h m)) r
+    c.tick.new.m)
+    (sym c.carried_by-in-Tick.ensures) (c.tick.ensures log).leads)

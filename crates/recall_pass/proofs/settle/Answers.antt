@@ -1,4 +1,5 @@
 -- Each way is one law of proofs/Messages. Rests on what `store` promises of a row.
+use Rattle.std.proofs.Common.{⊎_elim}
 use Rattle.recall_pass.proofs.Messages.{settles-none, settles-joins, settles-enters, settles-configures}
 use Rattle.recall_pass.proofs.settle.Goals as goal
 
@@ -16,8 +17,5 @@ returns-in-Enters c =
 
 pub returns-in-Nothing : goal.returns-in-Nothing
 returns-in-Nothing c =
-    λ d hardware. settles-none c.args.conn c.args.h c.args.m.now c.requires.fits d hardware c.in-Nothing.is
-
-pub returns-in-Configures : goal.returns-in-Configures
-returns-in-Configures c =
-    λ d hardware. settles-configures c.args.conn c.args.h c.args.m.now c.requires.fits d hardware c.in-Configures.is
+    ⊎_elim (λ e d hardware. settles-none c.args.conn c.args.h c.args.m.now c.requires.fits d hardware e)
+    (λ e d hardware. settles-configures c.args.conn c.args.h c.args.m.now c.requires.fits d hardware e) c.in-Nothing.is

@@ -6,23 +6,21 @@ use Prim.Native.Nat.{◌*◌}
 use lib.Seq.{length-take-le}
 use Rattle.rules.specs.Units.{from_micros}
 use Rattle.recall_rows.specs.Rows.{width}
-use Rattle.recall_pass.proofs.Calls.{ticks-room, ticks-small, ticks-micros, ticks-back, ticks-done}
+use Rattle.recall_pass.proofs.Calls.{ticks-room, ticks-small, ticks-micros, ticks-back, ticks-done, plays-as}
 use Rattle.recall_pass.proofs.tick.Goals as goal
 
 pub returns-then-out-lt4096 : goal.returns-then-out-lt4096
 returns-then-out-lt4096 c =
     let if1 = c.if-out-lt4096 in
-    let refused = c.refused in
     λ l. ticks-small c.args.seconds c.args.micros c.args.h c.args.m.now c.args.out.now c.requires.fits l
-    (omega (arith, if1.true)) refused.ensures
+    (omega (arith, if1.true))
 
 pub returns-then-micros-gt999999 : goal.returns-then-micros-gt999999
 returns-then-micros-gt999999 c =
     let if1 = c.if-out-lt4096 in
     let if2 = c.if-micros-gt999999 in
-    let refused2 = c.refused-then-micros-gt999999 in
     λ l. ticks-micros c.args.seconds c.args.micros c.args.h c.args.m.now c.args.out.now c.requires.fits l
-    (omega (arith, if1.false)) (omega (arith, if2.true)) refused2.ensures
+    (omega (arith, if1.false)) (omega (arith, if2.true))
 
 pub from_micros-until-requires : goal.from_micros-until-requires
 from_micros-until-requires c =
@@ -36,10 +34,9 @@ returns-then-until-clock c =
     let time-of = c.time_of in
     let from-micros = c.from_micros-until in
     let if3 = c.if-until-clock in
-    let refused3 = c.refused-then-until-clock in
     λ l. ticks-back c.args.seconds c.args.micros c.args.h c.args.m.now c.args.out.now c.requires.fits l
     (omega (arith, if1.false)) (omega (arith, if2.false)) from-micros.result
-    (from-micros.ensures ∙ ap from_micros time-of.ensures) (omega (arith, if3.true)) refused3.ensures
+    (from-micros.ensures ∙ ap from_micros time-of.ensures) (omega (arith, if3.true))
 
 pub slice_bounds-run-end-2 : goal.slice_bounds-run-end-2
 slice_bounds-run-end-2 c =
@@ -73,6 +70,6 @@ returns c =
     let from-micros = c.from_micros-until in
     let if3 = c.if-until-clock in
     let run = c.run-len in
-    λ l. ticks-done c.args.seconds c.args.micros c.args.h c.args.m.now c.args.out.now c.requires.fits l
+    λ l. plays-as c.unmoved.ensures (ticks-done c.args.seconds c.args.micros c.args.h c.args.m.now c.args.out.now c.requires.fits l
     (omega (arith, if1.false)) (omega (arith, if2.false)) from-micros.result
-    (from-micros.ensures ∙ ap from_micros time-of.ensures) (omega (arith, if3.false)) run.auto.m run.ensures
+    (from-micros.ensures ∙ ap from_micros time-of.ensures) (omega (arith, if3.false)) run.auto.m run.ensures)

@@ -2,42 +2,28 @@
 -- Rests on what `evict` promises.
 use native.Mathlib.Omega.{arith}
 use Rattle.recall_requests.proofs.Admission.{evict-room, grant-room, grant-done, later-is}
-use borrow.Author.Rules.{rules}
 use Rattle.recall_requests.proofs.accept.Goals as goal
 
 pub evict-len-requires : goal.evict-len-requires
-evict-len-requires c =
-    evict-room c.args.new c.args.m.now c.args.out.now c.requires
+evict-len-requires c = evict-room c.args.new c.args.m.now c.args.out.now c.requires
 
 pub slice_bounds-splice_response-count : goal.slice_bounds-splice_response-count
 slice_bounds-splice_response-count c =
-    let evict = c.evict-len in
-    omega (arith, grant-room c.args.new c.args.m.now c.args.out.now c.requires evict.ensures evict.auto.out)
+    omega (arith, grant-room c.args.new c.args.m.now c.args.out.now c.requires c.evict-len.ensures c.evict-len.auto.out)
 
 pub slice_bounds-splice_response-start : goal.slice_bounds-splice_response-start
 slice_bounds-splice_response-start c =
-    let evict = c.evict-len in
-    omega (arith, grant-room c.args.new c.args.m.now c.args.out.now c.requires evict.ensures evict.auto.out)
+    omega (arith, grant-room c.args.new c.args.m.now c.args.out.now c.requires c.evict-len.ensures c.evict-len.auto.out)
 
 pub splice_response-requires : goal.splice_response-requires
 splice_response-requires c =
-    let evict = c.evict-len in
-    omega (arith, grant-room c.args.new c.args.m.now c.args.out.now c.requires evict.ensures evict.auto.out)
+    omega (arith, grant-room c.args.new c.args.m.now c.args.out.now c.requires c.evict-len.ensures c.evict-len.auto.out)
 
-pub overflow_add-to : goal.overflow_add-to
-overflow_add-to c =
-    let evict = c.evict-len in
-    omega (arith, grant-room c.args.new c.args.m.now c.args.out.now c.requires evict.ensures evict.auto.out)
-
-pub returns : goal.returns
-returns c =
-    let evict = c.evict-len in
-    let rows_in = c.rows_in-n in
-    let count = c.count-moved in
-    let splice-response = c.splice_response in
+pub returns-clause-admits : goal.returns-clause-admits
+returns-clause-admits c =
+    let a = c.args in
     let d = c.evict-len.ensures in
-    let done = grant-done c.args.new c.args.m.now c.args.out.now c.requires d evict.auto.out splice-response.ensures
-    in
-    let moves = later-is c.args.new c.args.m.now c.args.out.now c.requires d rows_in.result count.result
-    rows_in.ensures count.ensures in
-    record { admits = record { does = done; moved = moves }; accepted_value = (search rules, search rules) }
+    record {
+      does = grant-done a.new a.m.now a.out.now c.requires d c.evict-len.auto.out c.splice_response.ensures;
+      moved = later-is a.new a.m.now a.out.now c.requires d c.count-moved.result c.count-moved.ensures;
+    }

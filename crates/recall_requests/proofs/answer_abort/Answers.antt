@@ -4,37 +4,26 @@ use Rattle.recall_requests.proofs.answer_abort.Goals as goal
 
 pub abort_response-len-requires : goal.abort_response-len-requires
 abort_response-len-requires c =
-    let is-held = c.is_held in
-    let if1 = c.if-is_held in
-    abort-says c.args.conn c.args.id c.args.m.now is-held.ensures c.args.out.now c.requires if1.true
+    let a = c.args in
+    abort-says a.conn a.id a.m.now c.is_held.ensures a.out.now c.requires c.if-is_held.true
 
 pub abort-requires : goal.abort-requires
 abort-requires c =
-    let is-held = c.is_held in
-    let if1 = c.if-is_held in
-    let abort-response = c.abort_response-len in
-    ends-room c.args.conn c.args.id c.args.m.now is-held.ensures c.args.out.now c.requires if1.true
-    abort-response.ensures abort-response.auto.out
+    let a = c.args in
+    ends-room a.conn a.id a.m.now c.is_held.ensures a.out.now c.requires c.if-is_held.true c.abort_response-len.ensures
+    c.abort_response-len.auto.out
 
 pub returns-then-is_held : goal.returns-then-is_held
 returns-then-is_held c =
-    let is-held = c.is_held in
-    let if1 = c.if-is_held in
-    let abort-response = c.abort_response-len in
-    let abort = c.abort in
-    abort-done c.args.conn c.args.id c.args.m.now is-held.ensures c.args.out.now c.requires if1.true
-    abort-response.ensures abort.ensures
+    let a = c.args in
+    abort-done a.conn a.id a.m.now c.is_held.ensures a.out.now c.requires c.if-is_held.true c.abort_response-len.ensures c.abort.ensures
 
 pub abort_response-requires : goal.abort_response-requires
 abort_response-requires c =
-    let is-held = c.is_held in
-    let if1 = c.if-is_held in
-    abort-none c.args.conn c.args.id c.args.m.now is-held.ensures c.args.out.now c.requires if1.false
+    let a = c.args in
+    abort-none a.conn a.id a.m.now c.is_held.ensures a.out.now c.requires c.if-is_held.false
 
 pub returns : goal.returns
 returns c =
-    let is-held = c.is_held in
-    let if1 = c.if-is_held in
-    let abort-response2 = c.abort_response in
-    abort-unknown c.args.conn c.args.id c.args.m.now is-held.ensures c.args.out.now c.requires if1.false
-    abort-response2.ensures
+    let a = c.args in
+    abort-unknown a.conn a.id a.m.now c.is_held.ensures a.out.now c.requires c.if-is_held.false c.abort_response.ensures

@@ -8,59 +8,42 @@ use Rattle.recall_requests.proofs.answer_splice.Goals as goal
 
 pub session_at-new-requires : goal.session_at-new-requires
 session_at-new-requires c =
-    let start_of_lem = c.start_of-t in
     omega (
       arith,
-      start_of_lem.ensures,
-      start_fits c.args.clock.0 c.args.conn c.args.r (all c.args.m.now) c.requires.asked
-          c.requires.keeps c.requires.clock_lt_horizon,
+      c.start_of-t.ensures,
+      start_fits c.args.clock.0 c.args.conn c.args.r (all c.args.m.now) c.requires.asked c.requires.keeps c.requires.clock_lt_horizon,
     )
 
 pub splice_result-n-requires : goal.splice_result-n-requires
 splice_result-n-requires c =
-    let start_of_lem = c.start_of-t in
-    let session-at = c.session_at-new in record {
+    record {
       few = few c.args.m.now c.requires.keeps;
       clock_lt_horizon = c.requires.clock_lt_horizon;
       asked = c.requires.asked;
-      overrides_bound = rank-fits start_of_lem.result.0 c.args.conn c.args.r session-at.ensures c.requires.asked;
+      overrides_bound = rank-fits c.start_of-t.result.0 c.args.conn c.args.r c.session_at-new.ensures c.requires.asked;
     }
 
 pub accept-requires : goal.accept-requires
 accept-requires c =
-    let start_of_lem = c.start_of-t in
-    let session-at = c.session_at-new in
-    let splice-result = c.splice_result-n in
-    let if1 = c.if-n-eq100 in
-    admit-room c.args.clock.0 c.args.conn c.args.r c.args.m.now start_of_lem.ensures session-at.ensures
-    splice-result.ensures c.args.out.now c.requires.room if1.true
+    let a = c.args in
+    admit-room a.clock.0 a.conn a.r a.m.now c.start_of-t.ensures c.session_at-new.ensures c.splice_result-n.ensures a.out.now
+    c.requires.room c.if-n-eq100.true
 
 pub returns-then-n-eq100 : goal.returns-then-n-eq100
 returns-then-n-eq100 c =
-    let start_of_lem = c.start_of-t in
-    let session-at = c.session_at-new in
-    let splice-result = c.splice_result-n in
-    let if1 = c.if-n-eq100 in
-    let accept = c.accept in
+    let a = c.args in
     let g = c.accept.ensures in
-    splice-accepted c.args.clock.0 c.args.conn c.args.r c.args.m.now start_of_lem.ensures session-at.ensures
-    splice-result.ensures if1.true g.admits g.accepted_value.0 g.accepted_value.1
+    splice-accepted a.clock.0 a.conn a.r a.m.now c.start_of-t.ensures c.session_at-new.ensures c.splice_result-n.ensures c.if-n-eq100.true
+    g.admits g.accepted_value
 
-pub splice_response-len-requires : goal.splice_response-len-requires
-splice_response-len-requires c =
-    let start_of_lem = c.start_of-t in
-    let session-at = c.session_at-new in
-    let splice-result = c.splice_result-n in
-    let if1 = c.if-n-eq100 in
-    decline-room c.args.clock.0 c.args.conn c.args.r c.args.m.now start_of_lem.ensures session-at.ensures
-    splice-result.ensures c.args.out.now c.requires.room if1.false
+pub splice_response-requires : goal.splice_response-requires
+splice_response-requires c =
+    let a = c.args in
+    decline-room a.clock.0 a.conn a.r a.m.now c.start_of-t.ensures c.session_at-new.ensures c.splice_result-n.ensures a.out.now
+    c.requires.room c.if-n-eq100.false
 
 pub returns : goal.returns
 returns c =
-    let start_of_lem = c.start_of-t in
-    let session-at = c.session_at-new in
-    let splice-result = c.splice_result-n in
-    let if1 = c.if-n-eq100 in
-    let splice-response = c.splice_response-len in
-    splice-declined c.args.clock.0 c.args.conn c.args.r c.args.m.now start_of_lem.ensures session-at.ensures
-    splice-result.ensures if1.false splice-response.ensures
+    let a = c.args in
+    splice-declined a.clock.0 a.conn a.r a.m.now c.start_of-t.ensures c.session_at-new.ensures c.splice_result-n.ensures c.if-n-eq100.false
+    c.splice_response.ensures

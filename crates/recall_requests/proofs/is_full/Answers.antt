@@ -1,25 +1,16 @@
--- 20, or 10 or more and a sum of 64.
-use Rattle.recall_ends.specs.Does.{all}
-use Rattle.recall_requests.proofs.Checks.{full-twenty, full-few, full-sum}
+-- 20, or 10 or more and a sum of 64: the first test that decides.
+use borrow.Author.Rules.{rules}
+use Rattle.recall_rules.specs.Work.{full}
 use Rattle.recall_requests.proofs.is_full.Goals as goal
 
 pub returns-then-n-eq20 : goal.returns-then-n-eq20
-returns-then-n-eq20 c =
-    let waiting = c.waiting-n in
-    let if1 = c.if-n-eq20 in
-    full-twenty c.args.conn (all c.args.m.now) waiting.ensures if1.true
+unfolding full
+returns-then-n-eq20 c = search rules
 
-pub returns-then-n-lt10 : goal.returns-then-n-lt10
-returns-then-n-lt10 c =
-    let waiting = c.waiting-n in
-    let if1 = c.if-n-eq20 in
-    let if2 = c.if-n-lt10 in
-    full-few c.args.conn (all c.args.m.now) waiting.ensures if1.false if2.true
+pub returns-then-n-ge10 : goal.returns-then-n-ge10
+unfolding full
+returns-then-n-ge10 c = search rules
 
-pub returns : goal.returns
-returns c =
-    let waiting = c.waiting-n in
-    let if1 = c.if-n-eq20 in
-    let if2 = c.if-n-lt10 in
-    let raised-sum = c.raised_sum in
-    full-sum c.args.conn (all c.args.m.now) waiting.ensures if1.false if2.false raised-sum.ensures
+pub returns-else-n-ge10 : goal.returns-else-n-ge10
+unfolding full
+returns-else-n-ge10 c = search rules

@@ -1,28 +1,30 @@
 use mathlib.Core.Path.{sym, ◌∙◌}
+use Prim.Native.Nat.{◌≤◌, ◌<◌}
 use native.Mathlib.Omega.{arith}
+use lib.ListN.{length}
 use Rattle.recall_rules.specs.Verdicts.{none}
-use Rattle.recall_rows.proofs.Rows.{length-in}
-use Rattle.recall_rows.proofs.Scans.{sought-none, sought-more, sought-hit, sought-out}
+use Rattle.recall_rows.specs.Rows.{all}
+use Rattle.recall_rows.proofs.Rows.{length-all}
+use Rattle.recall_rows.proofs.Scans.{place-some, place-none, sought-none, sought-more, sought-hit, sought-out}
 use Rattle.recall_rows.proofs.find.Goals as goal
 
 pub loop-i-init : goal.loop-i-init
 loop-i-init c = sought-none _ _
 
-pub is_one-requires : goal.is_one-requires
-is_one-requires c = record { fits = c.requires; i_lt_n = c.loop-i-test.true }
-
-pub returns-then-is_one : goal.returns-then-is_one
-returns-then-is_one c =
-    sought-hit _ _ c.loop-i.i none
-    (omega (arith, length-in c.args.n c.args.m.now, c.loop-i-test.true))
-    (sym c.is_one.ensures ∙ c.if-is_one.true) c.loop-i.invariant
+pub returns-then-is_one-clause-first : goal.returns-then-is_one-clause-first
+returns-then-is_one-clause-first c =
+    let l = all c.args.m.now in
+    let k : c.loop-i.i < length l = omega (arith, length-all c.args.m.now, c.rows_in-i-end.ensures, c.loop-i-test.true) in
+    place-some l c.loop-i.i _ (sought-hit _ l c.loop-i.i none k (sym c.is_one.ensures ∙ c.if-is_one.true) c.loop-i.invariant) k
 
 pub loop-i-preserved : goal.loop-i-preserved
 loop-i-preserved c =
-    sought-more _ _ c.loop-i.i none
-    (omega (arith, length-in c.args.n c.args.m.now, c.loop-i-test.true))
-    (sym c.is_one.ensures ∙ c.if-is_one.false) c.loop-i.invariant
+    let l = all c.args.m.now in
+    let k : c.loop-i.i < length l = omega (arith, length-all c.args.m.now, c.rows_in-i-end.ensures, c.loop-i-test.true) in
+    sought-more _ l c.loop-i.i none k (sym c.is_one.ensures ∙ c.if-is_one.false) c.loop-i.invariant
 
-pub returns : goal.returns
-returns c =
-    sought-out _ _ c.loop-i.i (omega (arith, length-in c.args.n c.args.m.now, c.loop-i-test.false)) c.loop-i.invariant
+pub returns-clause-first : goal.returns-clause-first
+returns-clause-first c =
+    let l = all c.args.m.now in
+    let k : length l ≤ c.loop-i.i = omega (arith, length-all c.args.m.now, c.rows_in-i-end.ensures, c.loop-i-test.false) in
+    place-none l _ (omega (arith, k, sought-out _ l c.loop-i.i k c.loop-i.invariant))

@@ -1,37 +1,18 @@
--- One that is not such is not better; one is better than none; else the order decides (`better-is` and the like).
+-- One that is such is better if the order says so (`better-is`).
 use mathlib.Core.Path.{ap₂, ◌∙◌}
 use native.Mathlib.Omega.{arith}
 use Rattle.recall_rules.specs.declared.Verdict.{Verdict}
-use Rattle.recall_rows.specs.Rows.{verdicts_in}
+use Rattle.recall_rows.specs.Rows.{all}
 use Rattle.recall_rows.specs.Scans.{order_test}
-use Rattle.recall_rows.proofs.Rows.{length-in}
-use Rattle.recall_rows.proofs.Best.{better-is, better-first, better-not}
+use Rattle.recall_rows.proofs.Rows.{length-all}
+use Rattle.recall_rows.proofs.Best.{better-is}
 use Rattle.recall_rows.proofs.is_better.Goals as goal
 
-pub returns-then-best-n : goal.returns-then-best-n
-returns-then-best-n c =
+pub returns-in-Some : goal.returns-in-Some
+returns-in-Some c =
     let a = c.args in
-    let l = verdicts_in a.n a.m.now in
-    let long = length-in a.n a.m.now in
-    better-is a.order a.test l a.i a.best _ c.stand_of-stand.ensures
-    c.is_one.result c.comes_before.result
-    c.is_one.ensures c.if-is_one.true
-    (omega (arith, long, c.if-best-n.true)) (c.comes_before.ensures
-    ∙ ap₂ (λ (v w : Verdict). order_test a.order v.session w.session) c.load-v.ensures
-    c.load-w.ensures)
-
-pub returns-then-is_one : goal.returns-then-is_one
-returns-then-is_one c =
-    let a = c.args in
-    let l = verdicts_in a.n a.m.now in
-    let long = length-in a.n a.m.now in
-    better-first a.order a.test l a.i a.best _ c.stand_of-stand.ensures
-    c.is_one.result c.is_one.ensures c.if-is_one.true (omega (arith, long, c.if-best-n.false))
-
-pub returns : goal.returns
-returns c =
-    let a = c.args in
-    let l = verdicts_in a.n a.m.now in
-    let long = length-in a.n a.m.now in
-    better-not a.order a.test l a.i a.best _ c.stand_of-stand.ensures c.is_one.result
-    c.is_one.ensures c.if-is_one.false
+    let k = rw c.in-Some.is at c.requires.best_in_bounds in
+    rw c.in-Some.is
+    (better-is a.order a.test (all a.m.now) a.i c.in-Some.b _ c.stand_of.ensures c.is_one.result c.comes_before.result c.is_one.ensures
+    c.if-is_one.true (omega (arith, k, length-all a.m.now))
+    (c.comes_before.ensures ∙ ap₂ (λ (v w : Verdict). order_test a.order v.session w.session) c.load.ensures c.load-in-Some.ensures))

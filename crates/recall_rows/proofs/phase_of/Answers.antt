@@ -1,21 +1,21 @@
 -- The cases of `phase_of`, one test behind the other.
 use mathlib.Core.Path.{refl}
-use borrow.Author.Tests.{eq-eqb, ne_eqb}
+use borrow.Author.Rules.{rules}
 use Rattle.recall_rows.specs.Rows.{phase_of}
 use Rattle.recall_rows.proofs.phase_of.Goals as goal
 
-pub returns-then-code-eq1 : goal.returns-then-code-eq1
+pub returns-in-1 : goal.returns-in-1
 unfolding phase_of
-returns-then-code-eq1 c = rw (eq-eqb _ _ c.if-code-eq1.true) refl
+returns-in-1 c = rw c.in-1.is refl
 
-pub returns-then-code-eq2 : goal.returns-then-code-eq2
+pub returns-in-2 : goal.returns-in-2
 unfolding phase_of
-returns-then-code-eq2 c = rw (ne_eqb _ _ c.if-code-eq1.false, eq-eqb _ _ c.if-code-eq2.true) refl
+returns-in-2 c = rw c.in-2.is refl
 
-pub returns-then-code-eq3 : goal.returns-then-code-eq3
+pub returns-in-3 : goal.returns-in-3
 unfolding phase_of
-returns-then-code-eq3 c = rw (ne_eqb _ _ c.if-code-eq1.false, ne_eqb _ _ c.if-code-eq2.false, eq-eqb _ _ c.if-code-eq3.true) refl
+returns-in-3 c = rw c.in-3.is refl
 
-pub returns : goal.returns
+pub returns-in_default : goal.returns-in_default
 unfolding phase_of
-returns c = rw (ne_eqb _ _ c.if-code-eq1.false, ne_eqb _ _ c.if-code-eq2.false, ne_eqb _ _ c.if-code-eq3.false) refl
+returns-in_default c = search rules

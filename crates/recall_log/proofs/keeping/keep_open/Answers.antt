@@ -1,15 +1,10 @@
--- The mark and the zero behind it are the appended log.
-use Prim.Native.Nat.{◌+◌}
-use native.Mathlib.Omega.{arith}
+-- The pair and the zero behind it are the appended log.
+use mathlib.Core.Path.{refl, ◌∙◌}
+use Rattle.recall_log.proofs.Puts.{pair-appended}
 use Rattle.rules.specs.Calls.{opens}
 use Rattle.recall_log.specs.Kept.{marked}
-use Rattle.recall_log.proofs.Puts.{record-put}
 use Rattle.recall_log.proofs.keeping.keep_open.Goals as goal
 
 pub returns : goal.returns
 unfolding marked
-returns c =
-    let mark = c.put_mark in
-    let zero = c.put_zero in
-    record-put (opens c.args.conn) c.args.l.now mark.new.l zero.new.l c.args.at (c.args.at + 2) c.requires
-    (omega arith) (omega arith) mark.ensures zero.ensures
+returns c = c.keep_pair.ensures ∙ pair-appended (opens c.args.conn) c.args.l.now c.requires refl

@@ -1,63 +1,26 @@
 -- Each answer follows from the tests that led there.
 -- Rests on `record-at` of proofs/Reading: the definition behind its first test, with the bytes as the code reads them.
-use mathlib.Core.Path.{sym}
+use mathlib.Core.Path.{sym, ◌∙◌}
 use native.Mathlib.Omega.{arith}
-use borrow.Author.Tests.{eq-eqb, ne_eqb}
-use lib.ListN.{get_or}
 use Rattle.rules.specs.Card.{open_mark, close_mark, message_mark, tick_mark}
-use Rattle.recall_log.proofs.Reading.{record-cut, record-at}
+use Rattle.recall_log.proofs.Reading.{record-cut, record-at, record-none}
 use Rattle.recall_log.proofs.records.record_at.Goals as goal
 
-pub returns-then-l-lt-MARK_END : goal.returns-then-l-lt-MARK_END
-returns-then-l-lt-MARK_END c = sym (record-cut c.args.l.now (omega arith))
+pub returns-in-79 : goal.returns-in-79
+returns-in-79 c = sym (record-at c.args.l.now open_mark (omega arith) (omega arith))
 
-pub returns-then-mark-eq79 : goal.returns-then-mark-eq79
-returns-then-mark-eq79 c =
-    let l = c.args.l.now in
-    rw (
-      record-at l (omega arith),
-      eq-eqb (get_or l 0 0) open_mark (omega arith),
-    )
+pub returns-in-67 : goal.returns-in-67
+returns-in-67 c = sym (record-at c.args.l.now close_mark (omega arith) (omega arith))
 
-pub returns-then-mark-eq67 : goal.returns-then-mark-eq67
-returns-then-mark-eq67 c =
-    let l = c.args.l.now in
-    rw (
-      record-at l (omega arith),
-      ne_eqb (get_or l 0 0) open_mark (λ e. omega arith),
-      eq-eqb (get_or l 0 0) close_mark (omega arith),
-    )
+pub returns-in-77 : goal.returns-in-77
+returns-in-77 c = c.message_at.ensures ∙ sym (record-at c.args.l.now message_mark (omega arith) (omega arith))
 
-pub returns-then-mark-eq77 : goal.returns-then-mark-eq77
-returns-then-mark-eq77 c =
-    let l = c.args.l.now in
-    rw (
-      record-at l (omega arith),
-      ne_eqb (get_or l 0 0) open_mark (λ e. omega arith),
-      ne_eqb (get_or l 0 0) close_mark (λ e. omega arith),
-      eq-eqb (get_or l 0 0) message_mark (omega arith),
-    )
-    c.message_at.ensures
+pub returns-in-84 : goal.returns-in-84
+returns-in-84 c = c.tick_at.ensures ∙ sym (record-at c.args.l.now tick_mark (omega arith) (omega arith))
 
-pub returns-then-mark-eq84 : goal.returns-then-mark-eq84
-returns-then-mark-eq84 c =
-    let l = c.args.l.now in
-    rw (
-      record-at l (omega arith),
-      ne_eqb (get_or l 0 0) open_mark (λ e. omega arith),
-      ne_eqb (get_or l 0 0) close_mark (λ e. omega arith),
-      ne_eqb (get_or l 0 0) message_mark (λ e. omega arith),
-      eq-eqb (get_or l 0 0) tick_mark (omega arith),
-    )
-    c.tick_at.ensures
+pub returns-in_default : goal.returns-in_default
+returns-in_default c = sym (record-cut c.args.l.now (omega arith))
 
-pub returns : goal.returns
-returns c =
-    let l = c.args.l.now in
-    rw (
-      record-at l (omega arith),
-      ne_eqb (get_or l 0 0) open_mark (λ e. omega arith),
-      ne_eqb (get_or l 0 0) close_mark (λ e. omega arith),
-      ne_eqb (get_or l 0 0) message_mark (λ e. omega arith),
-      ne_eqb (get_or l 0 0) tick_mark (λ e. omega arith),
-    )
+pub returns-in_default-2 : goal.returns-in_default-2
+returns-in_default-2 c =
+    sym (record-none c.args.l.now (omega arith) (λ e. omega arith) (λ e. omega arith) (λ e. omega arith) (λ e. omega arith))

@@ -1,14 +1,11 @@
 -- Each way of the match is a clause of the definition.
+use Rattle.std.proofs.Common.{refl, ⊎_elim}
 use Rattle.recall_log.specs.Kept.{span_of}
 use Rattle.recall_log.proofs.records.span_of.Goals as goal
 
 pub returns-in-Open : goal.returns-in-Open
 unfolding span_of
-returns-in-Open c = rw c.in-Open.is
-
-pub returns-in-Close : goal.returns-in-Close
-unfolding span_of
-returns-in-Close c = rw c.in-Close.is
+returns-in-Open c = ⊎_elim (λ e. rw e.1 refl) (λ e. rw e.1 refl) c.in-Open.is
 
 pub returns-in-Message : goal.returns-in-Message
 unfolding span_of
@@ -17,7 +14,3 @@ returns-in-Message c = rw c.in-Message.is
 pub returns-in-Tick : goal.returns-in-Tick
 unfolding span_of
 returns-in-Tick c = rw c.in-Tick.is
-
-pub returns-in-None : goal.returns-in-None
-unfolding span_of
-returns-in-None c = rw c.in-None.is
