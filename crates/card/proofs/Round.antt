@@ -15,7 +15,7 @@ use Rattle.rules.specs.Card.{message_end}
 use Rattle.rules.proofs.Tests.{and_both}
 use Rattle.feed.specs.declared.Played.{Played}
 use Rattle.feed.proofs.Runs.{cut_short}
-use Rattle.card.specs.declared.stdio.Written.{Written}
+use Rattle.standard_streams.specs.declared.Written.{Written}
 use Rattle.card.specs.Ran.{Ran, moved, again, Turned}
 use Rattle.card.proofs.Input.{read_behind, part_length, moved_front}
 

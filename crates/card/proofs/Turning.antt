@@ -3,7 +3,7 @@
 use mathlib.Core.Path.{◌≡◌, sym, subst, ◌∙◌}
 use mathlib.Core.Bool.{true, false}
 use mathlib.Core.List.{List, [], ◌∷◌, ◌++◌}
-use Prim.Native.Nat.{ℕ, suc, ◌-◌, ◌≤◌, ◌<◌}
+use Prim.Native.Nat.{ℕ, suc, ◌≤◌}
 use native.Mathlib.Omega.{arith}
 use lib.ListN.{length, take}
 use Rattle.rules.specs.State.{Splicer}
@@ -29,12 +29,11 @@ turning-counted {s} {left} {m} {b} {input} {have} g e =
     g.on Counted
     (subst (λ n. Turns n Counted (shown m b) (take have input)) (sym e) (record { reads = []; output = []; fed = λ unread. counted }))
 
--- one turn
-module _ {s : Splicer} {left : ℕ} {m b input : List ℕ} {have : ℕ} (g : Turning s left m b input have) (some : 0 < left)
+-- one turn, and those behind it
+module _ {s : Splicer} {left : ℕ} {m b input : List ℕ} {have : ℕ} (g : Turning s left m b input have) (others : ℕ) (one : suc others ≡ left)
     {r : Left} {n c i o : List ℕ} (t : Turned (shown m b) (take have input) r n c i o) where
-  last : (h : Stop) → Turns (suc (left - 1)) h (shown m b) (take have input) → Stopped s h
+  last : (h : Stop) → Turns (suc others) h (shown m b) (take have input) → Stopped s h
   last h x =
-      let one : suc (left - 1) ≡ left = omega arith in
       g.on h (subst (λ k. Turns k h (shown m b) (take have input)) one x)
 
   pub turning-over : r.more ≡ false → Stopped s Over
@@ -44,7 +43,7 @@ module _ {s : Splicer} {left : ℕ} {m b input : List ℕ} {have : ℕ} (g : Tur
   turning-failed e =
       last (Unwritten r.written) (record { reads = t.piece ∷ []; output = _; fed = λ unread. failed t.ran e })
 
-  pub turning-more : r.more ≡ true → Turning s (left - 1) n c i r.have
+  pub turning-more : r.more ≡ true → Turning s others n c i r.have
   turning-more e =
       record {
         lent = t.ran.runs.lent;
@@ -54,6 +53,6 @@ module _ {s : Splicer} {left : ℕ} {m b input : List ℕ} {have : ℕ} (g : Tur
               reads = t.piece ∷ x.reads;
               output = _;
               fed = λ unread. goes t.ran (sym t.more ∙ e)
-                  (subst (λ k. Fed (left - 1) h (shown n c) k (x.reads ++ unread) x.output) t.left (x.fed unread));
+                  (subst (λ k. Fed others h (shown n c) k (x.reads ++ unread) x.output) t.left (x.fed unread));
             });
       }

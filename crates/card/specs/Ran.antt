@@ -12,7 +12,7 @@ use Rattle.feed.specs.Play.{Step, goes_on}
 use Rattle.card.specs.declared.Left.{Left}
 use Rattle.card.specs.declared.Stop.{Stop}
 use Rattle.card.specs.declared.Stop.TheVariants.{Over, Unwritten, Counted}
-use Rattle.card.specs.declared.stdio.Written.{Written}
+use Rattle.standard_streams.specs.declared.Written.{Written}
 
 -- the step that some records of the bytes at hand make together; m, b and o: the memory and the output buffer after them. Whether one of
 -- them accepted a request is not asked (`goes_on`).

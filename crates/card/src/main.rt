@@ -13,8 +13,8 @@ ghost use Rattle.card.specs.Ran.{Ran, moved, again, Turned, Stopped};
 
 use feed::Played;
 use memory::{BYTES, WORDS};
+use standard_streams::{Written, is_whole, large_buffer, write};
 use std::io::{Stdin, Stdout};
-use stdio::Written;
 
 // After a turn: the bytes that are still to be played, whether there may be more to play, and the answer of the write.
 #[derive(Clone, Copy)]
@@ -25,6 +25,7 @@ struct Left {
 }
 
 // Why the program ends: there is nothing more to play; its output is not taken; or it has counted its turns down.
+// Of its own: what is over says something else in each program.
 #[derive(Clone, Copy)]
 enum Stop {
     Over,
@@ -38,6 +39,7 @@ fn run(m: &mut [u64; WORDS], b: &mut [u8], l: &[u8], out: &mut [u8]) -> Played
     requires card_room_in_bounds { card_room ≤ length out.old }
     ensures { Ran (shown m.old b.old) l.now result m.new b.new out.new }
 {
+    // No iterator: each call takes and writes as many bytes as it does.
     let mut used = 0;
     let mut len = 0;
     while 4096 <= out.len() - len {
@@ -48,15 +50,15 @@ fn run(m: &mut [u64; WORDS], b: &mut [u8], l: &[u8], out: &mut [u8]) -> Played
         len += p.len;
         if p.used == 0 || !p.more {
             return Played {
-                used: used,
-                len: len,
+                used,
+                len,
                 more: p.more,
             };
         }
     }
     Played {
-        used: used,
-        len: len,
+        used,
+        len,
         more: true,
     }
 }
@@ -66,11 +68,7 @@ fn keep(input: &mut [u8], used: usize, end: usize)
     requires { (used ≤ end) × (end ≤ length input.old) }
     ensures { input.new ≡ moved used end input.old }
 {
-    let mut i = 0;
-    while i < end - used {
-        input[i] = input[used + i];
-        i += 1;
-    }
+    input.copy_within(used..end, 0);
 }
 
 // At the end of the input nothing is read, and then nothing is played.
@@ -99,14 +97,12 @@ fn turn(
     let n = stdio::refill(stdin, &mut *input, have);
     let end = have + n;
     let p = run(&mut *m, &mut *b, &input[..end], &mut *out);
-    let len = p.len;
-    let used = p.used;
-    let written = stdio::write(stdout, &out[..len]);
-    keep(&mut *input, used, end);
+    let written = write(stdout, &out[..p.len]);
+    keep(&mut *input, p.used, end);
     Left {
-        have: end - used,
-        more: goes_on(p.more, n, used),
-        written: written,
+        have: end - p.used,
+        more: goes_on(p.more, n, p.used),
+        written,
     }
 }
 
@@ -124,8 +120,7 @@ fn turns(
     ensures { Stopped (shown m.old b.old) result }
 {
     let mut have = 0;
-    let mut left = u64::MAX;
-    while 0 < left {
+    for _ in 0..u64::MAX {
         let t = turn(
             stdin,
             stdout,
@@ -135,15 +130,13 @@ fn turns(
             have,
             &mut *out,
         );
-        let written = t.written;
-        if !stdio::is_whole(written) {
-            return Stop::Unwritten(written);
+        if !is_whole(t.written) {
+            return Stop::Unwritten(t.written);
         }
         if !t.more {
             return Stop::Over;
         }
         have = t.have;
-        left -= 1;
     }
     Stop::Counted
 }
@@ -154,9 +147,9 @@ fn play(stdin: Stdin, stdout: Stdout) -> Stop
 {
     let mut m = [0; WORDS];
     let mut b = [0; BYTES];
-    engine::fresh(&feed::channel(), &mut m, &mut b);
-    let mut input = stdio::large_buffer();
-    let mut out = stdio::large_buffer();
+    let _ = engine::fresh(&feed::channel(), &mut m, &mut b);
+    let mut input = large_buffer();
+    let mut out = large_buffer();
     turns(stdin, stdout, &mut m, &mut b, &mut input, &mut out)
 }
 

@@ -7,85 +7,62 @@ mod stdio;
 ghost use Rattle.std.specs.Prelude.{◌≡◌};
 ghost use Rattle.checker.specs.Input.{found_in, is_longer, Asks, Judges};
 
-use recording::Finding;
+use recording::{Finding, Said};
+use standard_streams::large_buffer;
 use std::io;
-use std::io::{Stdin, Stdout};
+use std::io::Stdin;
 use stdio::Came;
 
-// What stands behind the bytes that were read. A short read is the whole input; behind a full one a byte more is tried.
-#[derive(Clone, Copy)]
-enum Behind {
-    Short,
-    Tried(Came),
-}
-
-// What was found in the bytes that came.
+// What was found in the bytes that came, and what stands behind them: a short read is the whole input, and behind a full one a byte more
+// is tried.
 #[derive(Clone, Copy)]
 struct Judged {
     read: Came,
-    behind: Behind,
-    finding: Finding,
+    behind: Option<Came>,
+    finding: Option<Finding>,
 }
 
-fn look_behind(stdin: Stdin, read: usize) -> Behind
+fn look_behind(stdin: Stdin, read: usize) -> Option<Came>
     ensures { Asks read result }
 {
     if read < judge::LONGEST {
-        return Behind::Short;
+        return None;
     }
-    let mut next = [0; 1];
-    Behind::Tried(stdio::read(stdin, &mut next))
+    Some(stdio::read(stdin, &mut [0; 1]))
 }
 
-fn is_longer(b: Behind) -> bool
-    ensures { result ≡ is_longer b }
+fn is_longer(behind: Option<Came>) -> bool
+    ensures { result ≡ is_longer behind }
 {
-    match b {
-        Behind::Short => false,
-        Behind::Tried(c) => 0 < stdio::count_of(c),
-    }
+    behind.is_some_and(|c| 0 < c.count())
 }
 
-fn found(l: &[u8], is_longer: bool) -> Finding
+fn found(l: &[u8], is_longer: bool) -> Option<Finding>
     ensures { result ≡ found_in is_longer l.now }
 {
     if is_longer {
-        return Finding::Longer;
+        return Some(Finding::Longer);
     }
     judge::check(l)
-}
-
-fn numbered(stdout: Stdout, words: &str, n: usize) -> io::Result<()> {
-    println!(stdout; "{words}{n}")
-}
-
-fn say(stdout: Stdout, f: Finding) -> io::Result<()> {
-    match f {
-        Finding::Longer => println!(stdout; "refused 15"),
-        Finding::Unknown(at) => numbered(stdout, "refused 14 at ", at),
-        Finding::Differs(n) => numbered(stdout, "call ", n),
-        Finding::None => println!(stdout; "none"),
-    }
 }
 
 // The whole program, but for the line that it writes.
 fn read_and_judge(stdin: Stdin) -> Judged
     ensures { Judges result }
 {
-    let mut input = stdio::large_buffer();
+    let mut input = large_buffer();
     let read = stdio::read(stdin, &mut input);
-    let n = stdio::count_of(read);
+    let n = read.count();
     let behind = look_behind(stdin, n);
     let finding = found(&input[..n], is_longer(behind));
     Judged {
-        read: read,
-        behind: behind,
-        finding: finding,
+        read,
+        behind,
+        finding,
     }
 }
 
 fn main(rt: HostRuntime) -> io::Result<()> {
     let j = read_and_judge(rt.stdin());
-    let f = j.finding;
-    say(rt.stdout(), f)
+    println!(rt.stdout(); "{}", Said(j.finding))
 }

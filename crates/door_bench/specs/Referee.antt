@@ -1,8 +1,7 @@
 -- The referee of recordings in the words that C sees: its stage, a verdict, and where what is due stands.
 use Rattle.std.specs.Prelude.{◌≡◌, List, [], ◌∷◌, ℕ, ◌-◌, get_or}
 use Rattle.rules.specs.Calls.{fresh}
-use Rattle.engine.specs.declared.Answer.{Answer}
-use Rattle.engine.specs.Lent.{reply_of, Answers}
+use Rattle.engine.specs.Lent.{Answer, reply_of, Answers}
 use Rattle.follow.specs.declared.Stage.{Stage}
 use Rattle.follow.specs.declared.Verdict.{Verdict}
 use Rattle.follow.specs.Following.{first, Feeds, told_by}

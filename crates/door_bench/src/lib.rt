@@ -13,18 +13,20 @@ ghost use Rattle.door_bench.specs.Referee.{stage_in, stage_words, verdict_words,
 use follow::{KEPT, Stage, Verdict};
 use judge::ROOM;
 use memory::{BYTES, WORDS};
-use recall_log::Reply;
+use recall_log::{Refused, Reply};
 use recording::Finding;
 
 // The house number of a refusal or 0, whether a call differs, and its number, or the place of an unknown mark.
-fn words_of(f: Finding) -> [u64; 3]
-    ensures { result ≡ words_of f }
+// No From: both types are other crates'. 13, 14 and 15 stand once, where they become C's words.
+#[tactic(auto, unfolding(crate::specs::Bench::words_of))]
+fn words_of(found: Option<Finding>) -> [u64; 3]
+    ensures { result ≡ words_of found }
 {
-    match f {
-        Finding::Longer => [15, 0, 0],
-        Finding::Unknown(at) => [14, 0, at as u64],
-        Finding::Differs(n) => [0, 1, n as u64],
-        Finding::None => [0, 0, 0],
+    match found {
+        Some(Finding::Longer) => [15, 0, 0],
+        Some(Finding::Unknown(at)) => [14, 0, at as u64],
+        Some(Finding::Differs(n)) => [0, 1, n as u64],
+        None => [0, 0, 0],
     }
 }
 
@@ -32,14 +34,15 @@ fn words_of(f: Finding) -> [u64; 3]
 pub fn splicer_bench_2_check(recording: &[u8], reply: &mut [u64; 3])
     ensures { reply.new ≡ words_of (checked recording.now) }
 {
-    let f = judge::check(recording);
-    *reply = words_of(f);
+    *reply = words_of(judge::check(recording));
 }
 
 // ---- The referee: the same judgement of a recording that comes in pieces. Its stage is lent words.
 
 pub const STAGE: usize = 7;
 
+// Functions and no From: Stage, Verdict and arrays are of other crates, and the words' order is this one's (specs/Referee).
+#[tactic(auto, unfolding(crate::specs::Referee::stage_in))]
 fn stage_of(w: &[u64; STAGE]) -> Stage
     ensures { result ≡ stage_in w.now }
 {
@@ -54,6 +57,7 @@ fn stage_of(w: &[u64; STAGE]) -> Stage
     }
 }
 
+#[tactic(auto, unfolding(crate::specs::Referee::stage_words))]
 fn stage_words(s: Stage) -> [u64; STAGE]
     ensures { result ≡ stage_words s }
 {
@@ -68,6 +72,7 @@ fn stage_words(s: Stage) -> [u64; STAGE]
     ]
 }
 
+#[tactic(auto, unfolding(crate::specs::Referee::verdict_words))]
 fn verdict_words(v: Verdict) -> [u64; 4]
     ensures { result ≡ verdict_words v }
 {
@@ -143,21 +148,21 @@ pub fn splicer_bench_2_referee_due(stage: &[u64; STAGE], part: &mut [u64; 2])
 // ---- 02, CR 12: the engine that only remembers. The log is any bytes, of any length.
 
 // The house number or 0, the bytes consumed, the bytes written, and the places that an acceptance shifted.
+#[tactic(auto, unfolding(crate::specs::Bench::reply_words, recall_log::specs::Kept::number_of))]
 fn reply_words(r: Reply) -> [u64; 4]
     ensures { result ≡ reply_words r }
 {
     match r {
-        Reply::Full => [13, 0, 0, 0],
-        Reply::Refused(n) => [reply::house_number(n) as u64, 0, 0, 0],
-        Reply::Done(did) => [0, did.consumed as u64, did.written as u64, did.moved as u64],
+        Err(Refused::Full) => [13, 0, 0, 0],
+        Err(Refused::Rule(n)) => [reply::house_number(n) as u64, 0, 0, 0],
+        Ok(did) => [0, did.consumed as u64, did.written as u64, did.moved as u64],
     }
 }
 
 pub fn splicer_bench_2_recall_fresh(log: &mut [u8], reply: &mut [u64; 4])
     ensures { TellsFresh log.old reply.new log.new }
 {
-    let r = recall::fresh(&mut *log);
-    *reply = reply_words(r);
+    *reply = reply_words(recall::fresh(&mut *log));
 }
 
 pub fn splicer_bench_2_recall_open(log: &mut [u8], conn: u32, reply: &mut [u64; 4])

@@ -1,6 +1,6 @@
 -- Entries that are not whole yet: how long they are, and that one byte more makes them whole at their end.
 -- Rests on recording's laws of entries.
-use Rattle.std.proofs.Common.{◌≡◌, ℕ, ◌+◌, ◌<◌, ◌≤◌, Bool, true, false, ◌||◌, eqb, ltb, List, [], ◌∷◌, ◌++◌, length, take, drop, sym, refl}
+use Rattle.std.proofs.Common.{◌≡◌, ℕ, ◌<◌, ◌≤◌, Bool, true, false, ◌||◌, eqb, ltb, List, [], ◌∷◌, ◌++◌, length, take, drop, sym, refl}
 use Rattle.std.proofs.Common.{ap, ◌∙◌, subst, arith, length-append, take-append-drop, length-take-le, ltb-false, ltb-true}
 use lib.Seq.{take-append-le}
 use Rattle.rules.specs.Bytes.{largest_size, message_size, oversize}

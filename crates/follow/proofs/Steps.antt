@@ -1,12 +1,13 @@
 -- One entry, whole entries in front, one byte, a piece: whatever follows, what is found in the end stays.
 -- Rests on proofs/Open, on recording's laws of entries, and on the checker's: a call that is made is the definition's.
-use Rattle.std.proofs.Common.{◌≡◌, ℕ, ◌+◌, ◌-◌, ◌%◌, ◌^◌, ◌<◌, ◌≤◌, Bool, true, false, cond, eqb, List, [], ◌∷◌, ◌++◌, length, take, drop}
+use Rattle.std.proofs.Common.{◌≡◌, ℕ, ◌+◌, ◌-◌, ◌%◌, ◌^◌, ◌<◌, ◌≤◌, Bool, true, false, cond, eqb, List, [], ◌++◌, length, take, drop}
 use Rattle.std.proofs.Common.{sym, refl, ap, ◌∙◌, subst, append_assoc, arith, length-drop, length-take-le, take_all, take-add, eq-eqb}
 use Rattle.std.proofs.Common.{ne_eqb, eqb-true}
+use mathlib.Core.Logic.{◌⊎◌, inl, inr}
 use borrow.Author.Tests.{eqb-false}
 use Rattle.recording.specs.declared.Entry.{Entry}
-use Rattle.recording.specs.declared.Entry.TheVariants.{Made, Wrote, Another}
-use Rattle.recording.specs.Recording.{entry_in, made, another, entries_by, entries, Bench, taken, begins, is_nothing}
+use Rattle.recording.specs.declared.Entry.TheVariants.{Made, Wrote, Cut, Another, End}
+use Rattle.recording.specs.Recording.{entry_in, entries_by, entries, Bench, taken, begins, is_nothing}
 use Rattle.recording.proofs.Entries.{Begins, begins-as, span-two, entries-step, entries-made, entries-wrote, made-whole, wrote-whole}
 use Rattle.recording.proofs.Calling.{called-front}
 use Rattle.judge.specs.declared.turns.Still.{Still}
@@ -277,10 +278,16 @@ within-at s l o n w r e f =
     let b : Begins l (Wrote n) = begins-as l e in
     omega (arith, due-within (still s) [] [] o w r (take n l) f, length-take-le n l b.0.there)
 
-pub open_step : (s : Stage) (l m b o : List ℕ) (e : Entry) → Stands s m b o → s.told ≡ in_order → entry_in l ≡ e → is_open e ≡ true
+open_step : (s : Stage) (l m b o : List ℕ) (e : Entry) → Stands s m b o → s.told ≡ in_order → entry_in l ≡ e → is_open e ≡ true
     → 0 ≡ span_of e → Steps s l m b o (record { taken = 0; stage = s }) m b o
 open_step s l m b o e h z f p q =
     step-none s l m b o h z (ap is_open f ∙ p) (q ∙ sym (ap span_of f))
+
+pub open_last : (s : Stage) (l m b o : List ℕ) (e : Entry) → Stands s m b o → s.told ≡ in_order → entry_in l ≡ e
+    → (e ≡ Cut) ⊎ (e ≡ End) → Steps s l m b o (record { taken = 0; stage = s }) m b o
+unfolding is_open span_of
+open_last s l m b o e h z f (inl g) = open_step s l m b o Cut h z (f ∙ g) refl refl
+open_last s l m b o e h z f (inr g) = open_step s l m b o End h z (f ∙ g) refl refl
 
 -- ## Entry by entry
 

@@ -1,13 +1,12 @@
 -- The referee on small recordings, byte by byte, each worked out by hand from 02's CR 14 and the order of the bytes; numbers and places at
 -- 2^64; what is said at a stage. Rests on the definitions alone.
-use Rattle.std.proofs.Common.{◌≡◌, ℕ, Bool, true, false, List, [], ◌∷◌, map, replicate, refl}
+use Rattle.std.proofs.Common.{◌≡◌, ℕ, true, false, List, [], ◌∷◌, map, refl}
 use Prim.Native.String.{String, ◌++◌}
 use Rattle.cases.specs.Scenario.{hex}
 use Rattle.cases.specs.Computing.{computing}
 use Rattle.rules.specs.Bytes.{padded}
 use Rattle.rules.specs.Calls.{fresh}
 use Rattle.rules.specs.Card.{card_name}
-use Rattle.recording.specs.declared.Entry.{Entry}
 use Rattle.recording.specs.declared.Entry.TheVariants.{Made, Wrote, Cut, Another, End}
 use Rattle.recording.specs.Recording.{span, entry_in, entries_by, entries_run, entries, called, called_by, taken, begins, is_nothing}
 use Rattle.follow.specs.declared.Stage.{Stage}

@@ -9,7 +9,8 @@ ghost use Rattle.engine.specs.Lent.{Answers};
 ghost use Rattle.recording.specs.declared.Entry.TheVariants.{Made, Wrote, Another};
 ghost use Rattle.recording.specs.Recording.{entry_in};
 ghost use Rattle.follow.specs.Refereed.{in_order, said};
-ghost use Rattle.follow.specs.Following.{Stands, told_as, Steps, Runs, Holds, first, Begins, Takes, Feeds, verdict_of, told_by, end_by};
+ghost use Rattle.follow.specs.Following.{Stands, told_as, Steps, Runs, Holds, first, Begins, Takes, Feeds};
+ghost use Rattle.follow.specs.Following.{verdict_of, told_by, end_kind, end_by};
 
 use engine::Answer;
 use judge::{ROOM, begins_with, entry_at, made};
@@ -21,17 +22,18 @@ use std::num::wrapping_add_usize;
 pub const KEPT: usize = 4098;
 
 // What may be found: all is in order, a call whose records are not those due, an unknown mark, a cut last entry.
-const IN_ORDER: usize = 0;
+// Numbers and no enum: they are words that C lends and reads, and stage_in and Feeds speak of a stage of any words.
+pub const IN_ORDER: usize = 0;
 
-const A_CALL: usize = 1;
+pub const A_CALL: usize = 1;
 
-const A_MARK: usize = 2;
+pub const A_MARK: usize = 2;
 
 const CUT: usize = 3;
 
 // What was told, or 0; the number of the last call and the place of its mark; the place of the next entry; from where to where in the
 // buffer what is still due stands; and how many bytes of the next entry are kept. Numbers and places are counted modulo 2^64.
-#[derive(Clone, Copy)]
+#[derive(Clone, Copy, Default)]
 pub struct Stage {
     pub told: usize,
     pub number: usize,
@@ -50,7 +52,8 @@ pub struct Verdict {
     pub good: usize,
 }
 
-// Behind some bytes: how many of them were gone through, none if they are no whole entry.
+// Behind some bytes: how many of them were gone through, none if they are no whole entry. No Option: run adds them up, and the promise of
+// each step is that of the bytes that it took, 0 of them too.
 #[derive(Clone, Copy)]
 struct Went {
     taken: usize,
@@ -69,23 +72,13 @@ pub fn fresh(name: &[u8; 32], m: &mut [u64; WORDS], b: &mut [u8; BYTES]) -> Answ
 pub fn first() -> Stage
     ensures { result ≡ first }
 {
-    Stage {
-        told: IN_ORDER,
-        number: 0,
-        mark: 0,
-        at: 0,
-        from: 0,
-        end: 0,
-        have: 0,
-    }
+    Stage::default()
 }
 
 fn as_told(s: Stage, kind: usize) -> Stage
     ensures { result ≡ told_as kind s }
 {
-    let mut t = s;
-    t.told = kind;
-    t
+    Stage { told: kind, ..s }
 }
 
 // A call of n bytes is made, refused or not, unless something of the one before is still due.
@@ -110,13 +103,15 @@ fn called(
         };
     }
     let end = made(l, &mut *m, &mut *b, &mut *due);
-    let mut t = s;
-    t.number = wrapping_add_usize(s.number, 1);
-    t.mark = s.at;
-    t.at = wrapping_add_usize(s.at, n);
-    t.from = 0;
-    t.end = end;
-    Went { taken: n, stage: t }
+    let stage = Stage {
+        number: wrapping_add_usize(s.number, 1),
+        mark: s.at,
+        at: wrapping_add_usize(s.at, n),
+        from: 0,
+        end,
+        ..s
+    };
+    Went { taken: n, stage }
 }
 
 // A record of n bytes is the beginning of what is due, or its call differs.
@@ -127,13 +122,13 @@ fn compared(l: &[u8], n: usize, s: Stage, due: &[u8]) -> Went
     requires l_value { entry_in l.now ≡ Wrote n }
     ensures { (m b : List ℕ) → Stands s m b due.now → Steps s l.now m b due.now result m b due.now }
 {
-    let from = s.from;
-    let end = s.end;
-    if begins_with(&l[..n], &due[from..end]) {
-        let mut t = s;
-        t.at = wrapping_add_usize(s.at, n);
-        t.from = from + n;
-        return Went { taken: n, stage: t };
+    if begins_with(&l[..n], &due[s.from..s.end]) {
+        let stage = Stage {
+            at: wrapping_add_usize(s.at, n),
+            from: s.from + n,
+            ..s
+        };
+        return Went { taken: n, stage };
     }
     Went {
         taken: n,
@@ -146,15 +141,10 @@ fn strange(s: Stage) -> Went
     requires { s.told ≡ in_order }
     ensures { (l m b o : List ℕ) → entry_in l ≡ Another → Stands s m b o → Steps s l m b o result m b o }
 {
-    if s.from < s.end {
-        return Went {
-            taken: 1,
-            stage: as_told(s, A_CALL),
-        };
-    }
+    let kind = if s.from < s.end { A_CALL } else { A_MARK };
     Went {
         taken: 1,
-        stage: as_told(s, A_MARK),
+        stage: as_told(s, kind),
     }
 }
 
@@ -168,9 +158,8 @@ fn step(l: &[u8], s: Stage, m: &mut [u64; WORDS], b: &mut [u8; BYTES], due: &mut
     match entry_at(l) {
         Entry::Made(n) => called(l, n, s, &mut *m, &mut *b, &mut *due),
         Entry::Wrote(n) => compared(l, n, s, &*due),
-        Entry::Cut => Went { taken: 0, stage: s },
         Entry::Another => strange(s),
-        Entry::End => Went { taken: 0, stage: s },
+        Entry::Cut | Entry::End => Went { taken: 0, stage: s },
     }
 }
 
@@ -181,19 +170,14 @@ fn run(l: &[u8], s: Stage, m: &mut [u64; WORDS], b: &mut [u8; BYTES], due: &mut 
     ensures { Runs s l.now m.old b.old due.old result
         m.new b.new due.new }
 {
+    // No iterator: each step takes as many bytes as its entry has.
     let mut t = s;
     let mut at = 0;
     loop {
         let w = step(&l[at..], t, &mut *m, &mut *b, &mut *due);
         t = w.stage;
         at += w.taken;
-        if w.taken == 0 {
-            return Went {
-                taken: at,
-                stage: t,
-            };
-        }
-        if t.told != IN_ORDER {
+        if w.taken == 0 || t.told != IN_ORDER {
             return Went {
                 taken: at,
                 stage: t,
@@ -218,17 +202,14 @@ fn byte(
     ensures feeds { Feeds s (x ∷ []) m.old b.old due.old kept.old result.stage
         m.new b.new due.new kept.new }
 {
-    let have = s.have;
-    kept[have] = x;
-    let end = have + 1;
+    kept[s.have] = x;
+    let end = s.have + 1;
     let w = run(&kept[..end], s, &mut *m, &mut *b, &mut *due);
-    let mut t = w.stage;
-    if w.taken == 0 {
-        t.have = end;
-        return Went { taken: 1, stage: t };
+    let have = if w.taken == 0 { end } else { 0 };
+    Went {
+        taken: 1,
+        stage: Stage { have, ..w.stage },
     }
-    t.have = 0;
-    Went { taken: 1, stage: t }
 }
 
 // The whole entries where they lie, if nothing is kept of the first; else one byte.
@@ -272,6 +253,7 @@ pub fn feed(
 {
     let mut t = s;
     let mut i = 0;
+    // No iterator: each turn takes as many bytes as its entries have.
     while i < p.len() {
         if t.told != IN_ORDER {
             return t;
@@ -287,20 +269,19 @@ pub fn feed(
 fn say(kind: usize, s: Stage) -> Verdict
     ensures { result ≡ verdict_of (said kind s.number s.mark s.at) }
 {
-    if kind != A_CALL {
+    if kind == A_CALL {
         return Verdict {
-            kind: kind,
+            kind,
             number: s.number,
-            place: s.at,
-            good: s.number,
+            place: s.mark,
+            good: s.number.saturating_sub(1),
         };
     }
-    let good = if s.number == 0 { 0 } else { s.number - 1 };
     Verdict {
-        kind: kind,
+        kind,
         number: s.number,
-        place: s.mark,
-        good: good,
+        place: s.at,
+        good: s.number,
     }
 }
 
@@ -311,18 +292,25 @@ pub fn told(s: Stage) -> Verdict
     say(s.told, s)
 }
 
-// What is found if the recording ends here. "A cut last record is dropped", and nothing is asked there.
+// "A cut last record is dropped", and nothing is asked there.
+fn end_kind(s: Stage) -> usize
+    ensures { result ≡ end_kind s }
+{
+    if s.told != IN_ORDER {
+        return s.told;
+    }
+    if s.have != 0 {
+        return CUT;
+    }
+    if s.from < s.end {
+        return A_CALL;
+    }
+    IN_ORDER
+}
+
+// What is found if the recording ends here.
 pub fn end(s: Stage) -> Verdict
     ensures { result ≡ end_by s }
 {
-    if s.told != IN_ORDER {
-        return say(s.told, s);
-    }
-    if s.have != 0 {
-        return say(CUT, s);
-    }
-    if s.from < s.end {
-        return say(A_CALL, s);
-    }
-    say(IN_ORDER, s)
+    say(end_kind(s), s)
 }

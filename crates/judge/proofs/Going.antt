@@ -3,12 +3,14 @@
 use mathlib.Core.Path.{◌≡◌, refl, sym, ap, ap₂, ◌∙◌}
 use mathlib.Core.Bool.{Bool, true, false, cond}
 use mathlib.Core.List.{List}
+use mathlib.Core.Logic.{◌⊎◌, inl, inr}
 use Prim.Native.Nat.{ℕ, suc, ◌+◌, ◌-◌, ◌≤◌, ◌<◌}
 use native.Mathlib.Numerals.{add-one}
 use native.Mathlib.Omega.{arith}
 use lib.ListN.{length, take, drop, length-append, length-drop}
 use lib.Seq.{length-take-le, take_at, take-add, drop_at, drop-drop}
 use borrow.Author.Tests.{ltb-true, ltb-false, eq-eqb, ne_eqb}
+use Rattle.std.specs.Prelude.{Some, None}
 use Rattle.rules.specs.Bytes.{written}
 use Rattle.rules.specs.State.{Splicer}
 use Rattle.rules.specs.Card.{Next, calls, ends, stops, next}
@@ -19,7 +21,7 @@ use Rattle.feed.specs.Feed.{record_in, used_by, is_cut}
 use Rattle.feed.specs.Play.{step_by, step_of}
 use Rattle.recording.specs.declared.Entry.{Entry}
 use Rattle.recording.specs.declared.Entry.TheVariants.{Made, Wrote, Cut, Another, End}
-use Rattle.recording.specs.declared.Finding.TheVariants.{Differs, None}
+use Rattle.recording.specs.declared.Finding.TheVariants.{Differs}
 use Rattle.recording.specs.Recording.{entry_in, entries_by, entries, Bench, called, called_by, taken, begins, is_nothing, judged}
 use Rattle.recording.proofs.Entries.{Begins, begins-as, span-two, entries-step}
 use Rattle.recording.proofs.Calling.{Calls, is-called, called-front}
@@ -33,30 +35,35 @@ module _ (g : Bench) (l : List ℕ) where
   step : {e : Entry} → entry_in l ≡ e → judged g (entries l) ≡ judged g (entries_by entries e l)
   step e = ap (judged g) (entries-step l ∙ ap (λ x. entries_by entries x l) e)
 
-  pub cut-judged : entry_in l ≡ Cut → judged g (entries l) ≡ None
+  cut-judged : entry_in l ≡ Cut → judged g (entries l) ≡ None
   unfolding entries_by judged
   cut-judged e = step e
 
-  pub another-judged : entry_in l ≡ Another → judged g (entries l) ≡ None
+  another-judged : entry_in l ≡ Another → judged g (entries l) ≡ None
   unfolding entries_by judged
   another-judged e = step e
 
+  -- nothing is asked there
+  pub unread-judged : {e : Entry} → e ≡ entry_in l → (e ≡ Cut) ⊎ (e ≡ Another) → judged g (entries l) ≡ None
+  unread-judged f (inl k) = cut-judged (sym f ∙ k)
+  unread-judged f (inr k) = another-judged (sym f ∙ k)
+
   call-judged : (n : ℕ) → entry_in l ≡ Made n
-      → judged g (entries l) ≡ cond (is_nothing g.due) (judged (called_by (next l) g) (entries (drop n l))) (Differs g.number)
+      → judged g (entries l) ≡ cond (is_nothing g.due) (judged (called_by (next l) g) (entries (drop n l))) (Some (Differs g.number))
   unfolding entries_by judged
   call-judged n e =
-      step e ∙ ap (λ y. cond (is_nothing g.due) (judged y (entries (drop n l))) (Differs g.number)) (called-front l n e g)
+      step e ∙ ap (λ y. cond (is_nothing g.due) (judged y (entries (drop n l))) (Some (Differs g.number))) (called-front l n e g)
 
   record-judged : (n : ℕ) → entry_in l ≡ Wrote n
-      → judged g (entries l) ≡ cond (begins (take n l) g.due) (judged (taken n g) (entries (drop n l))) (Differs g.number)
+      → judged g (entries l) ≡ cond (begins (take n l) g.due) (judged (taken n g) (entries (drop n l))) (Some (Differs g.number))
   unfolding entries_by judged
   record-judged n e =
       let b : Begins l (Wrote n) = begins-as l e in
       step e
-      ∙ ap (λ k. cond (begins (take n l) g.due) (judged (taken k g) (entries (drop n l))) (Differs g.number))
+      ∙ ap (λ k. cond (begins (take n l) g.due) (judged (taken k g) (entries (drop n l))) (Some (Differs g.number)))
       (length-take-le n l b.0.there)
 
-  end-judged : entry_in l ≡ End → judged g (entries l) ≡ cond (is_nothing g.due) None (Differs g.number)
+  end-judged : entry_in l ≡ End → judged g (entries l) ≡ cond (is_nothing g.due) None (Some (Differs g.number))
   unfolding entries_by judged
   end-judged e = step e
 
@@ -90,7 +97,7 @@ module _ (g : Still) (m b o : List ℕ) (w : g.from ≤ g.end) (r : g.end ≤ le
 module _ (g : Still) (l m b o : List ℕ) (h : Stands g l o) where
   pub end_on : entry_in l ≡ End → judged (bench_of g m b o) (entries l) ≡ at_end g
   end_on e =
-      by (λ f. judged (bench_of g m b o) (entries l) ≡ f) (unmet g) (Differs g.number) None
+      by (λ f. judged (bench_of g m b o) (entries l) ≡ f) (unmet g) (Some (Differs g.number)) None
       (λ t. end-judged (bench_of g m b o) l e ∙ rw (something g m b o h.within h.room (ltb-true g.from g.end t)))
       (λ t. end-judged (bench_of g m b o) l e ∙ rw (nothing g m b o h.within h.room (ltb-false g.from g.end t)))
 
@@ -132,7 +139,7 @@ module _ (g : Still) (l m b o : List ℕ) (n : ℕ) (e : entry_in l ≡ Made n) 
         (let i : len ≡ len - 0 = omega arith in sym due-after.1 ∙ ap (λ k. take k q) i)
 
 module _ (g : Still) (l m b o : List ℕ) (h : Stands g l o) (n : ℕ) (e : entry_in l ≡ Made n) where
-  pub call-unmet : g.from < g.end → judged (bench_of g m b o) (entries l) ≡ Differs g.number
+  pub call-unmet : g.from < g.end → judged (bench_of g m b o) (entries l) ≡ Some (Differs g.number)
   call-unmet k = call-judged (bench_of g m b o) l n e ∙ rw (something g m b o h.within h.room k)
 
   module _ {len : ℕ} {v c q : List ℕ} (y : Makes l m b o len v c q) where
@@ -165,7 +172,7 @@ due-left o a e n h k =
     ∙ ap (take (e - (a + n))) (drop-drop n a o)
 
 module _ (g : Still) (l m b o : List ℕ) (h : Stands g l o) (n : ℕ) (e : entry_in l ≡ Wrote n) where
-  pub record-wrong : begins (take n l) (bench_of g m b o).due ≡ false → judged (bench_of g m b o) (entries l) ≡ Differs g.number
+  pub record-wrong : begins (take n l) (bench_of g m b o).due ≡ false → judged (bench_of g m b o) (entries l) ≡ Some (Differs g.number)
   record-wrong k = record-judged (bench_of g m b o) l n e ∙ rw k
 
   kind : Begins l (Wrote n)

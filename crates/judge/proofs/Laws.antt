@@ -7,7 +7,7 @@ use Prim.Native.Nat.{ℕ, ◌≤◌, ◌<◌}
 use native.Mathlib.Omega.{arith}
 use lib.Dec.{eqb, ltb}
 use lib.ListN.{length, get_or}
-use borrow.Author.Tests.{lt-ltb, le-ltb, eq-eqb, ne_eqb}
+use borrow.Author.Tests.{le-ltb, eq-eqb, ne_eqb, eqb-false}
 use Rattle.rules.specs.Bytes.{field, largest_size}
 use Rattle.rules.specs.Card.{tick_mark, mark_in, mark_end, tick_end, header_end, message_end}
 use Rattle.rules.proofs.Values.{field-one}
@@ -25,6 +25,9 @@ message-span-at l size h e = rw (e ∙ size-at l, le-ltb (length l) header_end h
 pub end-at : (l : List ℕ) → length l ≡ 0 → End ≡ entry_in l
 unfolding entry_in
 end-at l h = sym (rw (eq-eqb (length l) 0 h))
+
+pub some-at : (l : List ℕ) → eqb (length l) 0 ≡ false → 0 < length l
+some-at l e = let h = eqb-false (length l) 0 e in omega arith
 
 -- x: the mark
 module _ (l : List ℕ) (h : 0 < length l) {x : ℕ} (e : x ≡ get_or l 0 0) where
@@ -48,17 +51,10 @@ module _ (l : List ℕ) (h : 0 < length l) {x : ℕ} (e : x ≡ get_or l 0 0) wh
 
   -- n: the bytes that it asks for
   module _ {n : ℕ} (s : n ≡ span l) where
-    pub call-cut : marks_call x ≡ true → length l < n → Cut ≡ entry_in l
-    call-cut f g = sym (is_made l h (ap marks_call mark-at ∙ f) ∙ rw (lt-ltb (length l) (span l) (omega arith)))
+    pub call-at : marks_call x ≡ true → cond (ltb (length l) n) Cut (Made n) ≡ entry_in l
+    call-at f = ap (λ k. cond (ltb (length l) k) Cut (Made k)) s ∙ sym (is_made l h (ap marks_call mark-at ∙ f))
 
-    pub call-whole : marks_call x ≡ true → n ≤ length l → Made n ≡ entry_in l
-    call-whole f g = sym (is_made l h (ap marks_call mark-at ∙ f) ∙ rw (le-ltb (length l) (span l) (omega arith)) (ap Made (sym s)))
-
-    pub record-cut : marks_call x ≡ false → marks_record x ≡ true → length l < n → Cut ≡ entry_in l
-    record-cut f k g =
-        sym (is-wrote l h (ap marks_call mark-at ∙ f) (ap marks_record mark-at ∙ k) ∙ rw (lt-ltb (length l) (span l) (omega arith)))
-
-    pub record-whole : marks_call x ≡ false → marks_record x ≡ true → n ≤ length l → Wrote n ≡ entry_in l
-    record-whole f k g =
-        sym (is-wrote l h (ap marks_call mark-at ∙ f) (ap marks_record mark-at ∙ k)
-        ∙ rw (le-ltb (length l) (span l) (omega arith)) (ap Wrote (sym s)))
+    pub record-at : marks_call x ≡ false → marks_record x ≡ true → cond (ltb (length l) n) Cut (Wrote n) ≡ entry_in l
+    record-at f k =
+        ap (λ j. cond (ltb (length l) j) Cut (Wrote j)) s
+        ∙ sym (is-wrote l h (ap marks_call mark-at ∙ f) (ap marks_record mark-at ∙ k))

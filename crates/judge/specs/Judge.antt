@@ -1,23 +1,23 @@
 -- 02, CR 14: what the checker's own functions promise, of the number of the last call and the part of the buffer where what is still due of
 -- it stands.
-use Rattle.std.specs.Prelude.{◌≡◌, Bool, cond, List, ℕ, ◌+◌, ◌-◌, ◌^◌, ◌≤◌, ◌<◌, ltb, length, take, drop}
+use Rattle.std.specs.Prelude.{◌≡◌, Bool, cond, List, ℕ, ◌+◌, ◌-◌, ◌^◌, ◌≤◌, ◌<◌, ltb, length, take, drop, Option, Some, None}
+use Rattle.std.specs.ControlFlow.{MatchControlFlow}
+use Rattle.std.specs.declared.ops.ControlFlow.{ControlFlow}
 use Rattle.rules.specs.Bytes.{written}
 use Rattle.memory.specs.Memory.{shown}
 use Rattle.engine.specs.Lent.{Lent}
 use Rattle.feed.specs.Play.{step_of}
 use Rattle.recording.specs.declared.Finding.{Finding}
-use Rattle.recording.specs.declared.Finding.TheVariants.{Differs, None}
+use Rattle.recording.specs.declared.Finding.TheVariants.{Differs}
 use Rattle.recording.specs.Recording.{Bench, entries, judged}
 use Rattle.judge.specs.declared.turns.Still.{Still}
-use Rattle.judge.specs.declared.turns.After.{After}
-use Rattle.judge.specs.declared.turns.After.TheVariants.{On, Over}
 
 -- something is due that was not written
 abbrev pub unmet : Still → Bool
 unmet g = ltb g.from g.end
 
-abbrev pub at_end : Still → Finding
-at_end g = cond (unmet g) (Differs g.number) None
+abbrev pub at_end : Still → Option Finding
+at_end g = cond (unmet g) (Some (Differs g.number)) None
 
 -- before any call nothing is due
 abbrev pub none : Still
@@ -49,6 +49,6 @@ pub record GoesOn (g : Bench) (l : List ℕ) (n : ℕ) (s : Still) (m b o : List
   pub stands : Stands s (drop n l) o
   pub finds : judged g (entries l) ≡ judged (bench_of s m b o) (entries (drop n l))
 
-abbrev pub Turned : Bench → List ℕ → After → (m b o : List ℕ) → Type 0
-Turned g l (On n s) m b o = GoesOn g l n s m b o
-Turned g l (Over f) m b o = judged g (entries l) ≡ f
+-- after an entry: on behind its bytes, or what is found in all
+abbrev pub Turned : Bench → List ℕ → ControlFlow (Option Finding) (ℕ × Still) → (m b o : List ℕ) → Type 0
+Turned g l a m b o = MatchControlFlow a (λ on. GoesOn g l on.0 on.1 m b o) (λ f. judged g (entries l) ≡ f)

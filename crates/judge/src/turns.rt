@@ -8,10 +8,12 @@ ghost use Rattle.judge.specs.Judge.{unmet, at_end, none, bench_of, Stands, Makes
 use super::marks::entry_at;
 use memory::{BYTES, WORDS};
 use recording::{Entry, Finding};
+use std::ops::ControlFlow;
 
 // What the card program lends a call for its output.
 pub const ROOM: usize = 4096;
 
+// No Range: that is not Copy. m, b and due stay apart: C lends them so to the referee, which calls `made` too.
 // The number of the last call, and from where to where in the buffer what is still due of it stands.
 #[derive(Clone, Copy)]
 pub struct Still {
@@ -20,35 +22,29 @@ pub struct Still {
     pub end: usize,
 }
 
-// After an entry: the bytes that it took and what is still due, or the finding.
-#[derive(Clone, Copy)]
-enum After {
-    On(usize, Still),
-    Over(Finding),
+impl Still {
+    // At the next call and at the end nothing may be due any more.
+    fn is_unmet(self) -> bool
+        ensures { result ≡ unmet self }
+    {
+        self.from < self.end
+    }
+
+    fn at_end(self) -> Option<Finding>
+        ensures { result ≡ at_end self }
+    {
+        self.is_unmet().then_some(Finding::Differs(self.number))
+    }
 }
+
+// After an entry: the bytes that it took and what is still due, or what is found in all.
+type After = ControlFlow<Option<Finding>, (usize, Still)>;
 
 // Whether w is the beginning of d.
 pub fn begins_with(w: &[u8], d: &[u8]) -> bool
     ensures { result ≡ begins w.now d.now }
 {
-    if d.len() < w.len() {
-        return false;
-    }
-    let mut i = 0;
-    while i < w.len() {
-        if w[i] != d[i] {
-            return false;
-        }
-        i += 1;
-    }
-    true
-}
-
-// At the next call and at the end nothing may be due any more.
-fn is_unmet(g: Still) -> bool
-    ensures { result ≡ unmet g }
-{
-    g.from < g.end
+    d.starts_with(w)
 }
 
 // The call of an entry is made, refused or not; what is due of it stands at the start of the buffer: how long it is.
@@ -77,16 +73,16 @@ fn called(
     ensures { Turned (bench_of g m.old b.old due.old) l.now result
         m.new b.new due.new }
 {
-    if is_unmet(g) {
-        return After::Over(Finding::Differs(g.number));
+    if g.is_unmet() {
+        return ControlFlow::Break(Some(Finding::Differs(g.number)));
     }
     let end = made(l, &mut *m, &mut *b, &mut *due);
     let s = Still {
         number: g.number + 1,
         from: 0,
-        end: end,
+        end,
     };
-    After::On(n, s)
+    ControlFlow::Continue((n, s))
 }
 
 // A record of n bytes is the beginning of what is due, or its call differs. What it says changes no splicer.
@@ -95,26 +91,14 @@ fn compared(l: &[u8], n: usize, g: Still, due: &[u8]) -> After
     requires l_value { entry_in l.now ≡ Wrote n }
     ensures { (m b : List ℕ) → Lent m b → Turned (bench_of g m b due.now) l.now result m b due.now }
 {
-    let from = g.from;
-    let end = g.end;
-    if begins_with(&l[..n], &due[from..end]) {
+    if begins_with(&l[..n], &due[g.from..g.end]) {
         let s = Still {
-            number: g.number,
-            from: from + n,
-            end: end,
+            from: g.from + n,
+            ..g
         };
-        return After::On(n, s);
+        return ControlFlow::Continue((n, s));
     }
-    After::Over(Finding::Differs(g.number))
-}
-
-fn ended(g: Still) -> Finding
-    ensures { result ≡ at_end g }
-{
-    if is_unmet(g) {
-        return Finding::Differs(g.number);
-    }
-    Finding::None
+    ControlFlow::Break(Some(Finding::Differs(g.number)))
 }
 
 // One entry: "A cut last record is dropped", and nothing is asked there.
@@ -133,17 +117,22 @@ fn turn(
     match entry_at(l) {
         Entry::Made(n) => called(l, n, g, &mut *m, &mut *b, &mut *due),
         Entry::Wrote(n) => compared(l, n, g, &*due),
-        Entry::Cut => After::Over(Finding::None),
-        Entry::Another => After::Over(Finding::None),
-        Entry::End => After::Over(ended(g)),
+        Entry::Cut | Entry::Another => ControlFlow::Break(None),
+        Entry::End => ControlFlow::Break(g.at_end()),
     }
 }
 
 // All entries, from a splicer of which nothing is due.
-pub fn run(l: &[u8], m: &mut [u64; WORDS], b: &mut [u8; BYTES], due: &mut [u8; ROOM]) -> Finding
+pub fn run(
+    l: &[u8],
+    m: &mut [u64; WORDS],
+    b: &mut [u8; BYTES],
+    due: &mut [u8; ROOM],
+) -> Option<Finding>
     requires { Lent m.old b.old }
     ensures { result ≡ judged (bench_of none m.old b.old []) (entries l.now) }
 {
+    // No iterator: each turn takes as many bytes as its entry has.
     let mut at = 0;
     let mut g = Still {
         number: 0,
@@ -152,11 +141,11 @@ pub fn run(l: &[u8], m: &mut [u64; WORDS], b: &mut [u8; BYTES], due: &mut [u8; R
     };
     loop {
         match turn(&l[at..], g, &mut *m, &mut *b, &mut *due) {
-            After::On(n, s) => {
+            ControlFlow::Continue((n, s)) => {
                 at += n;
                 g = s;
             }
-            After::Over(f) => return f,
+            ControlFlow::Break(found) => return found,
         }
     }
 }

@@ -10,6 +10,7 @@ use lib.Dec.{eqb}
 use lib.ListN.{length, get_or, take, drop, length-append}
 use lib.Seq.{take-append-add}
 use borrow.Author.Tests.{eqb-true, eqb-false, eq-eqb, ne_eqb}
+use Rattle.std.specs.Prelude.{Some, None}
 use Rattle.rules.specs.Lists.{same}
 use Rattle.rules.specs.State.{Splicer}
 use Rattle.rules.specs.Calls.{Call, call}
@@ -19,7 +20,7 @@ use Rattle.rules.proofs.All.{All}
 use Rattle.rules.proofs.Bytes.{same_self, same_true}
 use Rattle.rules.proofs.Tests.{by, clash, failed, eqb_same}
 use Rattle.recording.specs.declared.Entry.TheVariants.{Made}
-use Rattle.recording.specs.declared.Finding.TheVariants.{Differs, None}
+use Rattle.recording.specs.declared.Finding.TheVariants.{Differs}
 use Rattle.recording.specs.Recording.{Item, made, wrote, cut, another, Bench, called, taken, begins, is_nothing, judged, unknown_from}
 use Rattle.recording.specs.Recorded.{ends_cut, calls_in, wrote_after, due_from, right_by}
 use Rattle.recording.proofs.Entries.{Whole, Valid}
@@ -199,7 +200,7 @@ names-wrote w es g k b n =
       wrong = wrote-step g w es n.at b ∙ n.wrong;
     }
 
-pub differs-first : (es : List Item) (g : Bench) (k : ℕ) → All Valid es → judged g es ≡ Differs k → Names es g k
+pub differs-first : (es : List Item) (g : Bench) (k : ℕ) → All Valid es → judged g es ≡ Some (Differs k) → Names es g k
 unfolding judged wrote_after due_from right_by ends_cut
 differs-first [] g k v f =
     ⊎_elim (λ x. absurd (let e = x.1 in let y : ◌≡◌ {A = ℕ} 0 1 = cc in omega arith))

@@ -9,6 +9,7 @@ use native.Mathlib.Omega.{arith}
 use lib.ListN.{length, take, drop, take-append-drop, length-append}
 use lib.Seq.{take_at, drop-length}
 use borrow.Author.Tests.{eqb-true}
+use Rattle.std.specs.Prelude.{Option, Some, None}
 use Rattle.rules.specs.State.{Splicer}
 use Rattle.rules.specs.Calls.{Call, call}
 use Rattle.rules.specs.Card.{Next, calls, ends, stops, next, told}
@@ -18,7 +19,7 @@ use Rattle.rules.proofs.Tests.{clash, or-none}
 use Rattle.feed.specs.Feed.{behind}
 use Rattle.recording.specs.declared.Entry.TheVariants.{Made}
 use Rattle.recording.specs.declared.Finding.{Finding}
-use Rattle.recording.specs.declared.Finding.TheVariants.{Differs, None}
+use Rattle.recording.specs.declared.Finding.TheVariants.{Differs}
 use Rattle.recording.specs.Recording.{span, Item, made, wrote, cut, another, Bench, called, called_by, taken, begins, is_nothing}
 use Rattle.recording.specs.Recording.{judged, unknown_from}
 use Rattle.recording.specs.Recorded.{recorded_by, recorded_run, bytes_of, made_bytes, ends_cut, is_last, has_oversize, call_of}
@@ -28,12 +29,12 @@ use Rattle.recording.proofs.Calling.{Calls, is-called, next-same}
 -- ## One step
 
 -- a test that has to be passed
-pub choice-none : (b : Bool) (x : Finding) (n : ℕ) → cond b x (Differs n) ≡ None → (b ≡ true) × (x ≡ None)
+pub choice-none : (b : Bool) (x : Option Finding) (n : ℕ) → cond b x (Some (Differs n)) ≡ None → (b ≡ true) × (x ≡ None)
 choice-none true x n e = (refl, e)
 choice-none false x n e = absurd (let y : ◌≡◌ {A = ℕ} 0 1 = cc in omega arith)
 
-pub choice-differs : (b : Bool) (x : Finding) (n k : ℕ) → cond b x (Differs n) ≡ Differs k
-    → ((b ≡ true) × (x ≡ Differs k)) ⊎ ((b ≡ false) × (k ≡ n))
+pub choice-differs : (b : Bool) (x : Option Finding) (n k : ℕ) → cond b x (Some (Differs n)) ≡ Some (Differs k)
+    → ((b ≡ true) × (x ≡ Some (Differs k))) ⊎ ((b ≡ false) × (k ≡ n))
 choice-differs true x n k e = inl (refl, e)
 choice-differs false x n k e = inr (refl, cc)
 

@@ -9,6 +9,7 @@ use lib.Dec.{ltb}
 use lib.ListN.{length, take}
 use lib.Seq.{take-nil, take-append-le, take-append-add, take-append_seam, drop-append_seam}
 use borrow.Author.Tests.{ltb-true, ltb-false}
+use Rattle.std.specs.Prelude.{None}
 use Rattle.rules.specs.Follows.Wires.{Byte}
 use Rattle.rules.specs.State.{Splicer}
 use Rattle.rules.specs.Follows.Sound.{Wired, Sound}
@@ -19,7 +20,6 @@ use Rattle.rules.proofs.Bytes.{same_self}
 use Rattle.rules.proofs.Sound.{sound-call}
 use Rattle.rules.proofs.Tests.{clash}
 use Rattle.recording.specs.declared.Entry.TheVariants.{Made, Wrote, Another}
-use Rattle.recording.specs.declared.Finding.TheVariants.{None}
 use Rattle.recording.specs.Recording.{span, entry_in, Item, made, wrote, cut, entries_run, entries, Bench, called_by, called, taken}
 use Rattle.recording.specs.Recording.{begins, is_nothing, judged, unknown_from}
 use Rattle.recording.specs.Recorded.{recorded_by, recorded_run, pieces, ends_cut}

@@ -9,6 +9,7 @@ use native.Mathlib.Omega.{arith}
 use lib.Dec.{ltb}
 use lib.ListN.{length, take}
 use borrow.Author.Tests.{ltb-true, ltb-false}
+use Rattle.std.specs.Prelude.{Option, Some, None}
 use Rattle.rules.specs.Lists.{All}
 use Rattle.rules.specs.Follows.Wires.{Byte}
 use Rattle.rules.specs.Bytes.{padded}
@@ -20,7 +21,7 @@ use Rattle.rules.proofs.Bytes.{padded-byte}
 use Rattle.rules.proofs.Sound.{sound-fresh}
 use Rattle.rules.proofs.Tests.{clash, failed}
 use Rattle.recording.specs.declared.Finding.{Finding}
-use Rattle.recording.specs.declared.Finding.TheVariants.{Longer, Unknown, Differs, None}
+use Rattle.recording.specs.declared.Finding.TheVariants.{Longer, Unknown, Differs}
 use Rattle.recording.specs.Recording.{wrote, entries_run, entries, start, first_unknown, longest, checked}
 use Rattle.recording.specs.Recorded.{recorded_up_to, recorded, Behind, unread, pieces, bytes_of, made_bytes, wrote_bytes, ends_cut}
 use Rattle.recording.specs.Recorded.{has_oversize}
@@ -104,7 +105,7 @@ none-is-ours l e c o =
 
 -- every call before it has exactly its due records, and it has not: not even the beginning of them, if the recording is cut and it is the
 -- last
-pub first-that-differs : (l : List ℕ) (n : ℕ) → checked l ≡ Differs n
+pub first-that-differs : (l : List ℕ) (n : ℕ) → checked l ≡ Some (Differs n)
     → (n ≤ length (calls_in (entries l)))
     × ((i : ℕ) → i < n → wrote_after (entries l) i ≡ due_after (entries l) i)
     × (right (entries l) n ≡ false)
@@ -128,26 +129,26 @@ not-less a b f = ltb-false a b (failed (ltb a b) (λ e. f (ltb-true a b e)))
 -- and so the number is the only one that can be named
 pub named-exactly : (l : List ℕ) (n : ℕ) → length l ≤ longest → first_unknown l ≡ None
     → n ≤ length (calls_in (entries l)) → ((i : ℕ) → i < n → right (entries l) i ≡ true) → right (entries l) n ≡ false
-    → checked l ≡ Differs n
+    → checked l ≡ Some (Differs n)
 unfolding right
 named-exactly l n h u among before wrong = go (checked l) refl
   where
-    go : (f : Finding) → checked l ≡ f → f ≡ Differs n
-    go Longer e = absurd (omega (arith, is-long l e))
-    go (Unknown i) e = let f = (is-unknown l e).1 in absurd (let y : ◌≡◌ {A = ℕ} 0 1 = cc in omega arith)
-    go (Differs k) e =
+    go : (f : Option Finding) → checked l ≡ f → f ≡ Some (Differs n)
+    go (Some Longer) e = absurd (omega (arith, is-long l e))
+    go (Some (Unknown i)) e = let f = (is-unknown l e).1 in absurd (let y : ◌≡◌ {A = ℕ} 0 1 = cc in omega arith)
+    go (Some (Differs k)) e =
         let d = first-that-differs l k e in
         let a = not-less k n (λ h. clash (right (entries l) k) (before k h) d.2) in
         let b = not-less n k
         (λ h. clash (right (entries l) n) (ap (right_by (entries l) n (wrote_after (entries l) n)) (sym (d.1 n h))
         ∙ right-itself (entries l) n _) wrong) in
-        ap Differs (omega arith)
+        ap (λ x. Some (Differs x)) (omega arith)
     go None e = absurd (clash (right (entries l) n) (none-differs l e n among) wrong)
 
 -- ## "house number 15 for a longer recording; then 14 for an unknown mark anywhere, with its place; both before any finding"
 
-pub fifteen-exactly : (l : List ℕ) → (checked l ≡ Longer → longest < length l) × (longest < length l → checked l ≡ Longer)
+pub fifteen-exactly : (l : List ℕ) → (checked l ≡ Some Longer → longest < length l) × (longest < length l → checked l ≡ Some Longer)
 fifteen-exactly l = (is-long l, long-is l)
 
-pub fourteen-exactly : (l : List ℕ) (i : ℕ) → (checked l ≡ Unknown i → Strange l i) × (Strange l i → checked l ≡ Unknown i)
+pub fourteen-exactly : (l : List ℕ) (i : ℕ) → (checked l ≡ Some (Unknown i) → Strange l i) × (Strange l i → checked l ≡ Some (Unknown i))
 fourteen-exactly l i = (unknown-strange l, strange-unknown l)

@@ -9,12 +9,13 @@ use lib.Dec.{ltb}
 use lib.ListN.{length, get_or, take, drop, length-drop}
 use lib.Seq.{length-take-le, drop-drop}
 use borrow.Author.Tests.{lt-ltb, le-ltb, ltb-true, ltb-false}
+use Rattle.std.specs.Prelude.{Option, Some, None}
 use Rattle.rules.specs.Card.{mark_in, next}
 use Rattle.rules.proofs.Values.{field-one}
 use Rattle.recording.specs.declared.Entry.{Entry}
 use Rattle.recording.specs.declared.Entry.TheVariants.{Made, Wrote, Cut, Another, End}
 use Rattle.recording.specs.declared.Finding.{Finding}
-use Rattle.recording.specs.declared.Finding.TheVariants.{Longer, Unknown, Differs, None}
+use Rattle.recording.specs.declared.Finding.TheVariants.{Longer, Unknown, Differs}
 use Rattle.recording.specs.Recording.{marks_call, marks_record, entry_in, Item, made, wrote, cut, another, entries_by, entries}
 use Rattle.recording.specs.Recording.{Bench, start, called_by, taken, begins, is_nothing, judged, unknown_from, first_unknown, before}
 use Rattle.recording.specs.Recording.{longest, checked}
@@ -24,17 +25,17 @@ use Rattle.recording.proofs.Entries.{Within, Begins, begins-as, is-another, span
 -- ## Which findings there are
 
 -- a place or none
-abbrev pub IsPlace : Finding → Type 0
-IsPlace Longer = ⊥
-IsPlace (Unknown i) = Unit {0}
-IsPlace (Differs n) = ⊥
+abbrev pub IsPlace : Option Finding → Type 0
+IsPlace (Some Longer) = ⊥
+IsPlace (Some (Unknown i)) = Unit {0}
+IsPlace (Some (Differs n)) = ⊥
 IsPlace None = Unit {0}
 
 -- a call or none
-abbrev pub IsCall : Finding → Type 0
-IsCall Longer = ⊥
-IsCall (Unknown i) = ⊥
-IsCall (Differs n) = Unit {0}
+abbrev pub IsCall : Option Finding → Type 0
+IsCall (Some Longer) = ⊥
+IsCall (Some (Unknown i)) = ⊥
+IsCall (Some (Differs n)) = Unit {0}
 IsCall None = Unit {0}
 
 pub only-places : (i : ℕ) (es : List Item) → IsPlace (unknown_from i es)
@@ -45,7 +46,7 @@ only-places i (wrote w ∷ es) = only-places (i + length w) es
 only-places i (cut l ∷ es) = tt
 only-places i (another l ∷ es) = tt
 
-call-or : (b : Bool) (x : Finding) (n : ℕ) → IsCall x → IsCall (cond b x (Differs n))
+call-or : (b : Bool) (x : Option Finding) (n : ℕ) → IsCall x → IsCall (cond b x (Some (Differs n)))
 call-or true x n c = c
 call-or false x n c = tt
 
@@ -60,13 +61,13 @@ only_calls g (another l ∷ es) = tt
 -- ## What was read before a finding
 
 -- not too long, no unknown mark, and then f
-pub record Read (l : List ℕ) (f : Finding) : Type 0 where
+pub record Read (l : List ℕ) (f : Option Finding) : Type 0 where
   pub short : length l ≤ longest
   pub known : first_unknown l ≡ None
   pub found : judged start (entries l) ≡ f
 
 module _ (l : List ℕ) where
-  pub long-is : longest < length l → checked l ≡ Longer
+  pub long-is : longest < length l → checked l ≡ Some Longer
   unfolding checked
   long-is h = rw (lt-ltb longest (length l) h)
 
@@ -78,19 +79,20 @@ module _ (l : List ℕ) where
   unfolding first_unknown
   place = only-places 0 (entries l)
 
-  pub read_is : {f : Finding} → Read l f → checked l ≡ f
+  pub read_is : {f : Option Finding} → Read l f → checked l ≡ f
   unfolding before
   read_is {f} r = short-is r.short ∙ ap₂ before r.known r.found
 
-  pub is_read : {f : Finding} → checked l ≡ f → IsCall f → Read l f
+  pub is_read : {f : Option Finding} → checked l ≡ f → IsCall f → Read l f
   unfolding before
   is_read {f} e c = go (ltb longest (length l)) refl
     where
-      known : (u : Finding) → first_unknown l ≡ u → IsPlace u → before u (judged start (entries l)) ≡ f → length l ≤ longest → Read l f
+      known : (u : Option Finding) → first_unknown l ≡ u → IsPlace u → before u (judged start (entries l)) ≡ f → length l ≤ longest
+          → Read l f
       known None d p j h = record { short = h; known = d; found = j }
-      known (Unknown i) d p j h = absurd (subst IsCall (sym j) c)
-      known (Differs n) d p j h = absurd p
-      known Longer d p j h = absurd p
+      known (Some (Unknown i)) d p j h = absurd (subst IsCall (sym j) c)
+      known (Some (Differs n)) d p j h = absurd p
+      known (Some Longer) d p j h = absurd p
 
       go : (b : Bool) → ltb longest (length l) ≡ b → Read l f
       go true d = absurd (subst IsCall (sym (sym (long-is (ltb-true longest (length l) d)) ∙ e)) c)
@@ -98,15 +100,15 @@ module _ (l : List ℕ) where
           let h = ltb-false longest (length l) d in
           known (first_unknown l) refl place (sym (short-is h) ∙ e) h
 
-  pub is-long : checked l ≡ Longer → longest < length l
+  pub is-long : checked l ≡ Some Longer → longest < length l
   unfolding before
   is-long e = go (ltb longest (length l)) refl
     where
-      never : (u f : Finding) → IsPlace u → IsCall f → before u f ≡ Longer → ⊥
+      never : (u f : Option Finding) → IsPlace u → IsCall f → before u f ≡ Some Longer → ⊥
       never None f p c j = subst IsCall j c
-      never (Unknown i) f p c j = subst IsPlace j tt
-      never (Differs n) f p c j = p
-      never Longer f p c j = p
+      never (Some (Unknown i)) f p c j = subst IsPlace j tt
+      never (Some (Differs n)) f p c j = p
+      never (Some Longer) f p c j = p
 
       go : (b : Bool) → ltb longest (length l) ≡ b → longest < length l
       go true d = ltb-true longest (length l) d
@@ -116,28 +118,28 @@ module _ (l : List ℕ) where
 
   -- ## An unknown mark
 
-  unknown-is : {i : ℕ} → length l ≤ longest → first_unknown l ≡ Unknown i → checked l ≡ Unknown i
+  unknown-is : {i : ℕ} → length l ≤ longest → first_unknown l ≡ Some (Unknown i) → checked l ≡ Some (Unknown i)
   unfolding before
   unknown-is {i} h e = short-is h ∙ ap (λ u. before u (judged start (entries l))) e
 
-  pub is-unknown : {i : ℕ} → checked l ≡ Unknown i → (length l ≤ longest) × (first_unknown l ≡ Unknown i)
+  pub is-unknown : {i : ℕ} → checked l ≡ Some (Unknown i) → (length l ≤ longest) × (first_unknown l ≡ Some (Unknown i))
   unfolding before
   is-unknown {i} e = go (ltb longest (length l)) refl
     where
-      known : (u f : Finding) → IsPlace u → IsCall f → before u f ≡ Unknown i → u ≡ Unknown i
+      known : (u f : Option Finding) → IsPlace u → IsCall f → before u f ≡ Some (Unknown i) → u ≡ Some (Unknown i)
       known None f p c j = absurd (subst IsCall j c)
-      known (Unknown k) f p c j = j
-      known (Differs n) f p c j = absurd p
-      known Longer f p c j = absurd p
+      known (Some (Unknown k)) f p c j = j
+      known (Some (Differs n)) f p c j = absurd p
+      known (Some Longer) f p c j = absurd p
 
-      go : (b : Bool) → ltb longest (length l) ≡ b → (length l ≤ longest) × (first_unknown l ≡ Unknown i)
+      go : (b : Bool) → ltb longest (length l) ≡ b → (length l ≤ longest) × (first_unknown l ≡ Some (Unknown i))
       go true d = let z = sym (long-is (ltb-true longest (length l) d)) ∙ e in absurd (let y : ◌≡◌ {A = ℕ} 0 1 = cc in omega arith)
       go false d =
           let h = ltb-false longest (length l) d in
           (h, known (first_unknown l) (judged start (entries l)) place (only_calls start (entries l)) (sym (short-is h) ∙ e))
 
   -- the entries from the place i on
-  abbrev pub from : ℕ → Finding
+  abbrev pub from : ℕ → Option Finding
   from i = unknown_from i (entries (drop i l))
 
   pub from_step : (i : ℕ) {e : Entry} → entry_in (drop i l) ≡ e → from i ≡ unknown_from i (entries_by entries e (drop i l))
@@ -165,7 +167,7 @@ module _ (l : List ℕ) where
   begins-there (after_record {i} {n} b e) = begins-there b ∙ from-record i n e
 
   -- the place that is found: an entry begins there, with another mark
-  finds : (n at i : ℕ) → length (drop at l) < n → Begin l at → from at ≡ Unknown i → Begin l i × (entry_in (drop i l) ≡ Another)
+  finds : (n at i : ℕ) → length (drop at l) < n → Begin l at → from at ≡ Some (Unknown i) → Begin l i × (entry_in (drop i l) ≡ Another)
   unfolding entries_by unknown_from
   finds zero at i h b f = absurd (omega arith)
   finds (suc n) at i h b f = go (entry_in (drop at l)) refl (λ k t c g. finds n (at + k) i t c g)
@@ -174,7 +176,7 @@ module _ (l : List ℕ) where
       shorter k w = omega (arith, length-drop at l, length-drop (at + k) l, w.there, w.asked, span-two (drop at l))
 
       go : (e : Entry) → entry_in (drop at l) ≡ e
-          → ((k : ℕ) → length (drop (at + k) l) < n → Begin l (at + k) → from (at + k) ≡ Unknown i
+          → ((k : ℕ) → length (drop (at + k) l) < n → Begin l (at + k) → from (at + k) ≡ Some (Unknown i)
           → Begin l i × (entry_in (drop i l) ≡ Another))
           → Begin l i × (entry_in (drop i l) ≡ Another)
       go (Made k) e r =
@@ -188,7 +190,7 @@ module _ (l : List ℕ) where
           let z : at ≡ i = (let x = sym (from_step at e) ∙ f in cc) in (subst (Begin l) z b, ap (λ k. entry_in (drop k l)) (sym z) ∙ e)
       go End e r = let z = sym (from_step at e) ∙ f in absurd (let y : ◌≡◌ {A = ℕ} 0 1 = cc in omega arith)
 
-  pub strange-unknown : {i : ℕ} → Strange l i → checked l ≡ Unknown i
+  pub strange-unknown : {i : ℕ} → Strange l i → checked l ≡ Some (Unknown i)
   unfolding entries_by unknown_from
   strange-unknown {i} s =
       let m : mark_in (drop i l) ≡ get_or l i 0 = field-one i l s.inside in
@@ -196,7 +198,7 @@ module _ (l : List ℕ) where
       (ap marks_record m ∙ s.no_record) in
       unknown-is s.read (begins-there s.begin ∙ from_step i e)
 
-  pub unknown-strange : {i : ℕ} → checked l ≡ Unknown i → Strange l i
+  pub unknown-strange : {i : ℕ} → checked l ≡ Some (Unknown i) → Strange l i
   unfolding first_unknown
   unknown-strange {i} e =
       let u = is-unknown e in

@@ -7,10 +7,11 @@ use Prim.Native.Nat.{ℕ}
 use Prim.Native.String.{String, ◌++◌}
 use native.Mathlib.Omega.{arith}
 use lib.ListN.{length}
+use Rattle.std.specs.Prelude.{Option, Some, None}
 use Rattle.cases.specs.Scenario.{hex}
 use Rattle.cases.specs.Computing.{computing}
 use Rattle.recording.specs.declared.Finding.{Finding}
-use Rattle.recording.specs.declared.Finding.TheVariants.{Longer, Unknown, Differs, None}
+use Rattle.recording.specs.declared.Finding.TheVariants.{Longer, Unknown, Differs}
 use Rattle.recording.specs.Recording.{span, entry_in, entries_by, entries_run, entries, start, called, called_by, taken, begins}
 use Rattle.recording.specs.Recording.{is_nothing, judged}
 use Rattle.recording.specs.Recording.{unknown_from, first_unknown, before, house_number, checked}
@@ -20,15 +21,15 @@ use Rattle.recording.proofs.Recordings.{fifteen-exactly}
 -- a recording, and what is found in it
 record Row : Type 0 where
   bytes : String
-  wants : Finding
+  wants : Option Finding
 
-row : String → Finding → Row
+row : String → Option Finding → Row
 row l f = record { bytes = l; wants = f }
 
-found : List Row → List Finding
+found : List Row → List (Option Finding)
 found rows = map (λ r. checked (hex r.bytes)) rows
 
-wanted : List Row → List Finding
+wanted : List Row → List (Option Finding)
 wanted rows = map (λ r. r.wants) rows
 
 finding : ℕ
@@ -71,25 +72,25 @@ calls =
     -- no call at all
     ∷ row "" None
     -- a call without its records: the last, and one before it
-    ∷ row (open0 ++ alive0 ++ general ++ close0 ++ close0) (Differs 4)
-    ∷ row (open0 ++ alive0 ++ close0 ++ close0 ++ closed) (Differs 2)
+    ∷ row (open0 ++ alive0 ++ general ++ close0 ++ close0) (Some (Differs 4))
+    ∷ row (open0 ++ alive0 ++ close0 ++ close0 ++ closed) (Some (Differs 2))
     -- another result; another connection
-    ∷ row (open0 ++ alive0 ++ "5200 0000 0000 0068 FFFF" ++ close0) (Differs 2)
-    ∷ row (open0 ++ alive0 ++ "5201 0000 0000 0067 FFFF" ++ close0) (Differs 2)
+    ∷ row (open0 ++ alive0 ++ "5200 0000 0000 0068 FFFF" ++ close0) (Some (Differs 2))
+    ∷ row (open0 ++ alive0 ++ "5201 0000 0000 0067 FFFF" ++ close0) (Some (Differs 2))
     -- twice; after the next call; before its own
-    ∷ row (open0 ++ alive0 ++ general ++ general) (Differs 2)
-    ∷ row (open0 ++ alive0 ++ close0 ++ general) (Differs 2)
-    ∷ row (open0 ++ general ++ alive0) (Differs 1)
+    ∷ row (open0 ++ alive0 ++ general ++ general) (Some (Differs 2))
+    ∷ row (open0 ++ alive0 ++ close0 ++ general) (Some (Differs 2))
+    ∷ row (open0 ++ general ++ alive0) (Some (Differs 1))
     -- a refusal for a record; another refusal
-    ∷ row (open0 ++ alive0 ++ closed) (Differs 2)
-    ∷ row (close0 ++ opened) (Differs 1)
+    ∷ row (open0 ++ alive0 ++ closed) (Some (Differs 2))
+    ∷ row (close0 ++ opened) (Some (Differs 1))
     -- refused calls are made and have their number
     ∷ row (close0 ++ closed ++ open0 ++ open0 ++ opened ++ close0) None
-    ∷ row (close0 ++ closed ++ open0 ++ open0) (Differs 3)
+    ∷ row (close0 ++ closed ++ open0 ++ open0) (Some (Differs 3))
     -- the calls alone lead the splicer: a record does not change it
     ∷ row (open0 ++ open0 ++ opened ++ alive0 ++ general) None
     -- the first of two
-    ∷ row (open0 ++ alive0 ++ close0 ++ close0) (Differs 2)
+    ∷ row (open0 ++ alive0 ++ close0 ++ close0) (Some (Differs 2))
     ∷ []
 
 finds-calls : found calls ≡ wanted calls
@@ -100,8 +101,8 @@ finds-calls = refl
 
 before-all : List Row
 before-all =
-    row closed (Differs 0)
-    ∷ row (general ++ open0) (Differs 0)
+    row closed (Some (Differs 0))
+    ∷ row (general ++ open0) (Some (Differs 0))
     ∷ []
 
 finds-call-0 : found before-all ≡ wanted before-all
@@ -145,15 +146,15 @@ cuts =
     -- of call 0
     ∷ row "45" None
     -- nothing else is let off: an earlier call, a whole record before the cut one
-    ∷ row (open0 ++ alive0 ++ close0 ++ "45") (Differs 2)
-    ∷ row (open0 ++ alive0 ++ closed ++ "52") (Differs 2)
-    ∷ row (closed ++ "52") (Differs 0)
+    ∷ row (open0 ++ alive0 ++ close0 ++ "45") (Some (Differs 2))
+    ∷ row (open0 ++ alive0 ++ closed ++ "52") (Some (Differs 2))
+    ∷ row (closed ++ "52") (Some (Differs 0))
     -- two due records: cut in the second; between the two, where nothing is dropped; both
     ∷ row (session ++ tick ++ starts ++ "5200 0009") None
-    ∷ row (session ++ tick ++ starts) (Differs 4)
+    ∷ row (session ++ tick ++ starts) (Some (Differs 4))
     ∷ row (session ++ tick ++ starts ++ ends) None
     -- only the second of them
-    ∷ row (session ++ tick ++ ends ++ "52") (Differs 4)
+    ∷ row (session ++ tick ++ ends ++ "52") (Some (Differs 4))
     ∷ []
 
 finds-cuts : found cuts ≡ wanted cuts
@@ -167,11 +168,11 @@ oversizes : List Row
 oversizes =
     -- a call is refused as the card program's is, by 4, 7 or 1, and the calls behind it are judged
     row (open0 ++ "4D00 0005 0FF9 FFFF FFFF" ++ "4504" ++ close0) None
-    ∷ row (open0 ++ "4D00 0005 0FF9 FFFF FFFF" ++ "4504" ++ close0 ++ close0) (Differs 4)
+    ∷ row (open0 ++ "4D00 0005 0FF9 FFFF FFFF" ++ "4504" ++ close0 ++ close0) (Some (Differs 4))
     ∷ row ("4D00 0005 0FF9 FFFF FFFF" ++ closed ++ "4D04 0005 0FF9 FFFF FFFF" ++ "4501") None
     -- a record is never due so, and ends behind its header: there the next mark stands
-    ∷ row (open0 ++ "5200 0000 0FF9 0067 FFFF" ++ open0) (Differs 1)
-    ∷ row (open0 ++ "5200 0000 0FF9 0067 FFFF" ++ "00") (Unknown 12)
+    ∷ row (open0 ++ "5200 0000 0FF9 0067 FFFF" ++ open0) (Some (Differs 1))
+    ∷ row (open0 ++ "5200 0000 0FF9 0067 FFFF" ++ "00") (Some (Unknown 12))
     -- 4,088 bytes are looked for, and are not there
     ∷ row (open0 ++ "5200 0000 0FF8 0067 FFFF" ++ "00") None
     ∷ row (open0 ++ "4D00 0005 0FF8 FFFF FFFF" ++ "00") None
@@ -217,12 +218,12 @@ finds-whole = refl
 marks : List Row
 marks =
     -- places are counted from 0, over calls and records
-    row "00" (Unknown 0)
-    ∷ row (open0 ++ alive0 ++ general ++ "0000") (Unknown 30)
+    row "00" (Some (Unknown 0))
+    ∷ row (open0 ++ alive0 ++ general ++ "0000") (Some (Unknown 30))
     -- a lone last byte; behind a wrong record; behind a call without its records
-    ∷ row (open0 ++ "FF") (Unknown 2)
-    ∷ row (open0 ++ closed ++ "00") (Unknown 4)
-    ∷ row (open0 ++ alive0 ++ "00") (Unknown 20)
+    ∷ row (open0 ++ "FF") (Some (Unknown 2))
+    ∷ row (open0 ++ closed ++ "00") (Some (Unknown 4))
+    ∷ row (open0 ++ alive0 ++ "00") (Some (Unknown 20))
     -- only where an entry begins: a connection is none
     ∷ row "4F00 4F04 4501" None
     ∷ []
@@ -233,11 +234,11 @@ finds-marks = refl
 
 -- ## "It reads up to 65,536 bytes." "house number 15 for a longer recording; then 14"
 
-reads-65536 : (l : List ℕ) → length l ≡ 65536 → checked l ≡ Longer → ⊥
+reads-65536 : (l : List ℕ) → length l ≡ 65536 → checked l ≡ Some Longer → ⊥
 reads-65536 l h e = omega (arith, (fifteen-exactly l).0 e)
 
-refuses-65537 : (l : List ℕ) → length l ≡ 65537 → checked l ≡ Longer
+refuses-65537 : (l : List ℕ) → length l ≡ 65537 → checked l ≡ Some Longer
 refuses-65537 l h = (fifteen-exactly l).1 (omega arith)
 
-numbers : (i : ℕ) → (house_number Longer ≡ 15) × (house_number (Unknown i) ≡ 14)
+numbers : (i : ℕ) → (house_number (Some Longer) ≡ 15) × (house_number (Some (Unknown i)) ≡ 14)
 numbers i = (refl, refl)

@@ -5,9 +5,10 @@ use mathlib.Core.List.{List, [], ◌∷◌, map}
 use mathlib.Core.List.{◌++◌ as ◌then◌}
 use Prim.Native.Nat.{ℕ}
 use lib.ListN.{replicate}
+use Rattle.std.specs.Prelude.{Some, None}
 use Rattle.cases.specs.Scenario.{hex}
 use Rattle.cases.specs.Computing.{computing}
-use Rattle.recording.specs.declared.Finding.TheVariants.{Longer, Unknown, Differs, None}
+use Rattle.recording.specs.declared.Finding.TheVariants.{Longer, Unknown, Differs}
 use Rattle.recording.specs.Recording.{span, entry_in, entries_by, entries_run, entries, start, called, called_by, taken, begins}
 use Rattle.recording.specs.Recording.{is_nothing, judged}
 use Rattle.recording.specs.Recording.{unknown_from, first_unknown, before, house_number, checked}
@@ -21,13 +22,13 @@ finding = 0
 
 strange : map (λ l. checked (hex l))
     ("CF00" ∷ "C300" ∷ "CD00 0005 0000 FFFF FFFF" ∷ "D400 00000000 00000000" ∷ "C507" ∷ "D200 0000 0000 0067 FFFF" ∷ "4F00 CF01" ∷ [])
-    ≡ Unknown 0 ∷ Unknown 0 ∷ Unknown 0 ∷ Unknown 0 ∷ Unknown 0 ∷ Unknown 0 ∷ Unknown 2 ∷ []
+    ≡ map (λ i. Some (Unknown i)) (0 ∷ 0 ∷ 0 ∷ 0 ∷ 0 ∷ 0 ∷ 2 ∷ [])
 unfolding finding
 strange = refl
 
 -- ## "A cut last record is dropped": a header with nothing behind it that asks for a byte is cut, and one that asks for none is whole
 
-headers : map (λ l. checked (hex l)) ("4F00 5200 0000 0001 0067 FFFF" ∷ "4F00 5200 0000 0000 0067 FFFF" ∷ []) ≡ None ∷ Differs 1 ∷ []
+headers : map (λ l. checked (hex l)) ("4F00 5200 0000 0001 0067 FFFF" ∷ "4F00 5200 0000 0000 0067 FFFF" ∷ []) ≡ None ∷ Some (Differs 1) ∷ []
 unfolding finding
 headers = refl
 
@@ -38,7 +39,7 @@ unfolding finding
 long = refl
 
 -- 64 and 128 refusals of number 0x45 are written before any call
-refusals : checked (replicate 128 0x45) ∷ checked (replicate 256 0x45) ∷ [] ≡ Differs 0 ∷ Differs 0 ∷ []
+refusals : checked (replicate 128 0x45) ∷ checked (replicate 256 0x45) ∷ [] ≡ Some (Differs 0) ∷ Some (Differs 0) ∷ []
 unfolding finding
 refusals = refl
 
@@ -57,17 +58,18 @@ init =
 config : List ℕ
 config = hex "5200 000B 00F6 0064 FFFF" then (name then (hex "00D4" then replicate 212 0x55))
 
-untold : map checked (init ∷ (init then config) ∷ []) ≡ Differs 3 ∷ None ∷ []
+untold : map checked (init ∷ (init then config) ∷ []) ≡ Some (Differs 3) ∷ None ∷ []
 unfolding finding name init config
 untold = refl
 
 -- ## "house number 15 for a longer recording; then 14 for an unknown mark"; a finding has none
 
-numbers : map house_number (Longer ∷ Unknown 7 ∷ Differs 3 ∷ None ∷ []) ≡ 15 ∷ 14 ∷ 0 ∷ 0 ∷ []
+numbers : map house_number (Some Longer ∷ Some (Unknown 7) ∷ Some (Differs 3) ∷ None ∷ []) ≡ 15 ∷ 14 ∷ 0 ∷ 0 ∷ []
 numbers = refl
 
 -- ## "It reads up to 65,536 bytes."
 
-most : map (λ n. checked (replicate n 0)) (65535 ∷ 65536 ∷ 65537 ∷ 65538 ∷ []) ≡ Unknown 0 ∷ Unknown 0 ∷ Longer ∷ Longer ∷ []
+most : map (λ n. checked (replicate n 0)) (65535 ∷ 65536 ∷ 65537 ∷ 65538 ∷ [])
+    ≡ Some (Unknown 0) ∷ Some (Unknown 0) ∷ Some Longer ∷ Some Longer ∷ []
 unfolding finding
 most = refl

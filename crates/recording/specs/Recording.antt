@@ -1,5 +1,5 @@
 -- 02, CR 14: a bench recording, and what the checker finds in it. What is due is what the card program writes (rules' specs/Card).
-use Rattle.std.specs.Prelude.{Bool, cond, ◌||◌, List, [], ◌∷◌, ℕ, zero, suc, ◌+◌, eqb, ltb, length, take, drop}
+use Rattle.std.specs.Prelude.{Bool, cond, ◌||◌, List, [], ◌∷◌, ℕ, zero, suc, ◌+◌, eqb, ltb, length, take, drop, Option, Some, None}
 use Rattle.rules.specs.Lists.{same}
 use Rattle.rules.specs.Bytes.{message_size, oversize, padded}
 use Rattle.rules.specs.State.{Splicer}
@@ -9,7 +9,7 @@ use Rattle.rules.specs.Card.{mark_end, tick_end, header_end, message_end, Next, 
 use Rattle.recording.specs.declared.Entry.{Entry}
 use Rattle.recording.specs.declared.Entry.TheVariants.{Made, Wrote, Cut, Another, End}
 use Rattle.recording.specs.declared.Finding.{Finding}
-use Rattle.recording.specs.declared.Finding.TheVariants.{Longer, Unknown, Differs, None}
+use Rattle.recording.specs.declared.Finding.TheVariants.{Longer, Unknown, Differs}
 
 -- ## Entries: "in the card program's marks, of calls and of the records another splicer wrote after each"
 
@@ -78,10 +78,10 @@ entries l = entries_run (length l) l
 -- ## Findings
 
 -- the house numbers, and no number otherwise
-abbrev pub house_number : Finding → ℕ
-house_number Longer = 15
-house_number (Unknown i) = 14
-house_number (Differs n) = 0
+abbrev pub house_number : Option Finding → ℕ
+house_number (Some Longer) = 15
+house_number (Some (Unknown i)) = 14
+house_number (Some (Differs n)) = 0
 house_number None = 0
 
 -- what is known between two entries: the splicer, the number of the last call, and what is still due of its records
@@ -120,35 +120,33 @@ is_nothing d = eqb (length d) 0
 -- "names the first call whose records aren't those that the rules give, or says that there is none": a record is the beginning of what is
 -- due; at the next call, and at the end, nothing is due any more. "A cut last record is dropped, and the last call before it then needs
 -- only the beginning of its due records": there nothing is asked.
-unfoldable pub judged : Bench → List Item → Finding
-judged g [] = cond (is_nothing g.due) None (Differs g.number)
-judged g (made c ∷ es) = cond (is_nothing g.due) (judged (called_by (next c) g) es) (Differs g.number)
-judged g (wrote w ∷ es) = cond (begins w g.due) (judged (taken (length w) g) es) (Differs g.number)
+unfoldable pub judged : Bench → List Item → Option Finding
+judged g [] = cond (is_nothing g.due) None (Some (Differs g.number))
+judged g (made c ∷ es) = cond (is_nothing g.due) (judged (called_by (next c) g) es) (Some (Differs g.number))
+judged g (wrote w ∷ es) = cond (begins w g.due) (judged (taken (length w) g) es) (Some (Differs g.number))
 judged g (cut l ∷ es) = None
 judged g (another l ∷ es) = None
 
 -- "an unknown mark anywhere, with its place": counted from `at` on
-unfoldable pub unknown_from : ℕ → List Item → Finding
+unfoldable pub unknown_from : ℕ → List Item → Option Finding
 unknown_from at [] = None
 unknown_from at (made c ∷ es) = unknown_from (at + length c) es
 unknown_from at (wrote w ∷ es) = unknown_from (at + length w) es
 unknown_from at (cut l ∷ es) = None
-unknown_from at (another l ∷ es) = Unknown at
+unknown_from at (another l ∷ es) = Some (Unknown at)
 
-unfoldable pub first_unknown : List ℕ → Finding
+unfoldable pub first_unknown : List ℕ → Option Finding
 first_unknown l = unknown_from 0 (entries l)
 
 -- "both before any finding"
-unfoldable pub before : Finding → Finding → Finding
+unfoldable pub before : Option Finding → Option Finding → Option Finding
 before None f = f
-before (Differs n) f = Differs n
-before (Unknown i) f = Unknown i
-before Longer f = Longer
+before (Some u) f = Some u
 
 -- "It reads up to 65,536 bytes."
 abbrev pub longest : ℕ
 longest = 65536
 
 -- "Refusals: house number 15 for a longer recording; then 14 for an unknown mark anywhere, with its place; both before any finding."
-unfoldable pub checked : List ℕ → Finding
-checked l = cond (ltb longest (length l)) Longer (before (first_unknown l) (judged start (entries l)))
+unfoldable pub checked : List ℕ → Option Finding
+checked l = cond (ltb longest (length l)) (Some Longer) (before (first_unknown l) (judged start (entries l)))

@@ -1,28 +1,23 @@
 // A line of bytes in hex.
-use std::io;
-use std::io::Stdout;
-
-fn digit(x: u8) -> u8 {
-    if x < 10 {
-        return b'0' + x;
-    }
-    if x < 16 {
-        return b'A' - 10 + x;
-    }
-    b'?'
-}
+use std::fmt;
+use std::fmt::Display;
 
 // A word, and behind a space the bytes, if there are any.
-pub fn line(stdout: Stdout, word: &[u8], l: &[u8]) -> io::Result<()> {
-    stdout.write_all(word)?;
-    if 0 < l.len() {
-        stdout.write_all(b" ")?;
+#[derive(Clone, Copy)]
+pub struct Line<'a> {
+    pub word: &'a str,
+    pub bytes: &'a [u8],
+}
+
+impl<'a> Display for Line<'a> {
+    fn fmt<W: fmt::Write>(&self, f: &mut fmt::Formatter<W>) -> fmt::Result {
+        write!(f, "{}", self.word)?;
+        if !self.bytes.is_empty() {
+            write!(f, " ")?;
+        }
+        for x in self.bytes {
+            write!(f, "{x:02X}")?;
+        }
+        Ok(())
     }
-    let mut i = 0;
-    while i < l.len() {
-        let two = [digit(l[i] / 16), digit(l[i] % 16)];
-        stdout.write_all(&two)?;
-        i += 1;
-    }
-    stdout.write_all(b"\n")
 }

@@ -6,65 +6,52 @@
 
 mod hex;
 
-ghost use Rattle.std.specs.Prelude.{◌≡◌, ◌≤◌, length};
+ghost use Rattle.std.specs.Prelude.{◌≤◌, length};
 ghost use Rattle.follow.specs.Following.{Holds};
 
-use follow::{KEPT, Stage, Verdict};
-use hex::line;
+use follow::{A_CALL, A_MARK, IN_ORDER, KEPT, Stage, Verdict};
+use hex::Line;
 use judge::ROOM;
 use memory::{BYTES, WORDS};
-use recording::Entry;
+use recording::{Entry, Finding, Said};
+use standard_streams::{large_buffer, read_once};
 use std::io;
-use std::io::{Read, Stdin, Stdout};
+use std::io::{Stdin, Stdout};
 use std::num::wrapping_add_usize;
 
-// One read: how many bytes came.
-fn read(mut stdin: Stdin, input: &mut [u8]) -> usize
-    ensures { result ≤ length input.new }
-{
-    match stdin.read(&mut *input) {
-        Ok(n) => n,
-        Err(_) => 0,
-    }
-}
-
-// 65,536 zeros.
-fn large_buffer() -> [u8; 65536]
-    ensures { 65536 ≡ length result }
-{
-    [0; 65536]
-}
-
-fn numbered(stdout: Stdout, words: &str, n: usize) -> io::Result<()> {
-    println!(stdout; "{words}{n}")
-}
-
 // The checker's line: a cut last entry is none.
-fn say(stdout: Stdout, v: Verdict) -> io::Result<()> {
-    if v.kind == 1 {
-        return numbered(stdout, "call ", v.number);
-    }
-    if v.kind == 2 {
-        return numbered(stdout, "refused 14 at ", v.place);
-    }
-    println!(stdout; "none")
+fn said(v: Verdict) -> Said {
+    Said(match v.kind {
+        A_CALL => Some(Finding::Differs(v.number)),
+        A_MARK => Some(Finding::Unknown(v.place)),
+        _ => None,
+    })
 }
 
 // The record that l begins with; a call or a mark there is none.
 fn found(stdout: Stdout, l: &[u8]) -> io::Result<()> {
-    if let Entry::Wrote(n) = judge::entry_at(l) {
-        return line(stdout, b"found", &l[..n]);
-    }
-    line(stdout, b"found", b"")
+    let bytes = if let Entry::Wrote(n) = judge::entry_at(l) {
+        &l[..n]
+    } else {
+        &l[..0]
+    };
+    let line = Line {
+        word: "found",
+        bytes,
+    };
+    println!(stdout; "{line}")
 }
 
 fn wanted(stdout: Stdout, t: Stage, due: &[u8]) -> io::Result<()>
     requires from_le_end { t.from ≤ t.end }
     requires end_in_bounds { t.end ≤ length due.now }
 {
-    let from = t.from;
-    let end = t.end;
-    line(stdout, b"wanted", &due[from..end])
+    let bytes = &due[t.from..t.end];
+    let line = Line {
+        word: "wanted",
+        bytes,
+    };
+    println!(stdout; "{line}")
 }
 
 // Told while the piece was handed in, which begins at the place `before`: its entry lies there, or was kept.
@@ -79,8 +66,8 @@ fn tell(
     requires from_le_end { t.from ≤ t.end }
     requires end_in_bounds { t.end ≤ length due.now }
 {
-    say(stdout, follow::told(t))?;
-    if t.told != 1 {
+    println!(stdout; "{}", said(follow::told(t)))?;
+    if t.told != A_CALL {
         return Ok(());
     }
     wanted(stdout, t, due)?;
@@ -99,10 +86,10 @@ fn close(stdout: Stdout, t: Stage, due: &[u8]) -> io::Result<()>
     requires end_in_bounds { t.end ≤ length due.now }
 {
     let v = follow::end(t);
-    say(stdout, v)?;
-    if v.kind == 1 {
+    println!(stdout; "{}", said(v))?;
+    if v.kind == A_CALL {
         wanted(stdout, t, due)?;
-        line(stdout, b"found", b"")?;
+        found(stdout, b"")?;
     }
     Ok(())
 }
@@ -122,27 +109,20 @@ fn turns(
     requires { Holds s m.old b.old due.old kept.old }
 {
     let mut t = s;
-    let mut is_said = false;
-    let mut said = Ok(());
+    let mut told = None;
     let mut before: usize = 0;
-    let mut left: usize = 18446744073709551615;
-    while 0 < left {
-        let n = read(stdin, &mut *input);
+    for _ in 0..usize::MAX {
+        let n = read_once(stdin, &mut *input);
         if n == 0 {
-            if !is_said {
-                return close(stdout, t, &*due);
-            }
-            return said;
+            return told.unwrap_or_else(|| close(stdout, t, &*due));
         }
         t = follow::feed(&input[..n], t, &mut *m, &mut *b, &mut *due, &mut *kept);
-        if !is_said && t.told != 0 {
-            said = tell(stdout, t, &*due, &*kept, &input[..n], before);
-            is_said = true;
+        if told.is_none() && t.told != IN_ORDER {
+            told = Some(tell(stdout, t, &*due, &*kept, &input[..n], before));
         }
         before = wrapping_add_usize(before, n);
-        left -= 1;
     }
-    said
+    told.unwrap_or(Ok(()))
 }
 
 fn main(rt: HostRuntime) -> io::Result<()> {
@@ -151,7 +131,7 @@ fn main(rt: HostRuntime) -> io::Result<()> {
     let mut due = [0; ROOM];
     let mut kept = [0; KEPT];
     let mut input = large_buffer();
-    let _answer: engine::Answer = follow::fresh(&feed::channel(), &mut m, &mut b);
+    let _ = follow::fresh(&feed::channel(), &mut m, &mut b);
     turns(
         rt.stdin(),
         rt.stdout(),

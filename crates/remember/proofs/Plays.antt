@@ -6,11 +6,10 @@ use Prim.Native.Nat.{ℕ, ◌+◌, ◌-◌, ◌≤◌}
 use native.Mathlib.Omega.{arith}
 use lib.ListN.{length, get_or, take, drop, set, length-drop}
 use lib.Seq.{sets-eq, length-take-le, take_at, take_all}
-use Rattle.rules.specs.declared.Refusal.{Refusal}
 use Rattle.rules.specs.Lists.{All}
 use Rattle.rules.specs.Follows.Wires.{Byte}
 use Rattle.rules.specs.Bytes.{part, padded, written}
-use Rattle.rules.specs.HouseNumbers.{Answer, refused, good, house_number, written_by}
+use Rattle.rules.specs.HouseNumbers.{Answer, refused, good, written_by}
 use Rattle.rules.specs.Calls.{Call, opens, closes, messages, ticks, call, after}
 use Rattle.rules.specs.Card.{card_name, card_room, card_loans, message_end, Next, calls, ends, stops, next, told}
 use Rattle.rules.specs.Follows.Sound.{Sound}
@@ -20,12 +19,14 @@ use Rattle.rules.proofs.Tests.{by}
 use Rattle.rules.proofs.Values.{field-one}
 use Rattle.rules.proofs.Written.{written_none, length-written}
 use Rattle.recall_log.specs.declared.Record.{Record}
-use Rattle.recall_log.specs.declared.Record.TheVariants.{Open, Close, Message, Tick, None}
+use Rattle.recall_log.specs.declared.Record.TheVariants.{Open, Close, Message, Tick}
 use Rattle.reply.specs.declared.Did.{Did}
-use Rattle.recall_log.specs.declared.Reply.{Reply}
-use Rattle.recall_log.specs.declared.Reply.TheVariants.{Full, Refused, Done}
+use Rattle.std.specs.Prelude.{Option, None, Some, Ok, Err}
+use Rattle.std.proofs.lemmas.Option.{none-some, same_Some}
+use Rattle.recall_log.specs.declared.Refused.{Refused}
+use Rattle.recall_log.specs.declared.Refused.TheVariants.{Full, Rule}
 use Rattle.recall_log.specs.Log.{kept_calls, full}
-use Rattle.recall_log.specs.Kept.{record_of, record_in, call_of, span_of, number_of, reply_of}
+use Rattle.recall_log.specs.Kept.{Reply, record_of, record_in, call_of, span_of, number_of, reply_of}
 use Rattle.recall_log.proofs.Firsts.{first}
 use Rattle.recall_log.proofs.Logs.{any-log}
 use Rattle.recall.specs.Recall.{begun, Told, Recalled, told_by, recall_call, Remembers}
@@ -33,17 +34,17 @@ use Rattle.remember.specs.Said.{made_of, call_for, said, said_length, Says, Play
 
 -- ## Behind a call
 
-pub says-full : {r : Reply} (e : List ℕ) → r ≡ Full → 2 ≤ length e → Says r e 2 (set (set e 0 0x45) 1 13)
-unfolding said said_length number_of told written
-says-full e f h = record { count = rw f; bytes = rw f (sets-eq (said Full []) e 0 h) }
-
-pub says-refused : {r : Reply} {n : Refusal} (e : List ℕ) (x : ℕ) → r ≡ Refused n → x ≡ house_number n → 2 ≤ length e
+pub says-refused : {r : Reply} {n : Refused} (e : List ℕ) (x : ℕ) → r ≡ Err n → x ≡ number_of (Err n) → 2 ≤ length e
     → Says r e 2 (set (set e 0 0x45) 1 x)
 unfolding said said_length number_of told written
-says-refused {r} {n} e x f g h = record { count = rw f; bytes = rw (f, g) (sets-eq (said (Refused n) []) e 0 h) }
+says-refused e x f g h = go _ f g
+  where
+    go : {r : Reply} (n : Refused) → r ≡ Err n → x ≡ number_of (Err n) → Says r e 2 (set (set e 0 0x45) 1 x)
+    go Full f g = record { count = rw f; bytes = rw (f, g) (sets-eq (said (Err Full) []) e 0 h) }
+    go (Rule n) f g = record { count = rw f; bytes = rw (f, g) (sets-eq (said (Err (Rule n)) []) e 0 h) }
 
 -- what a good call wrote stands there already
-pub says-done : {r : Reply} {did : Did} (e : List ℕ) → r ≡ Done did → Says r e did.written e
+pub says-done : {r : Reply} {did : Did} (e : List ℕ) → r ≡ Ok did → Says r e did.written e
 unfolding said said_length
 says-done e f = record { count = rw f; bytes = rw f (sym (written_none e 0)) }
 
@@ -55,15 +56,15 @@ record Fits (t : Told) : Type 0 where
   pub whole : (e : List ℕ) → written (written e 0 t.shows) 0 (said t.reply []) ≡ written e 0 (said t.reply t.shows)
   pub room : length (said t.reply t.shows) ≤ card_room
 
-fits-full : Fits (record { reply = Full; shows = [] })
+fits-full : Fits (record { reply = Err Full; shows = [] })
 unfolding said said_length number_of
-fits-full = record { count = refl; whole = λ e. ap (λ x. written x 0 (said Full [])) (written_none e 0); room = omega arith }
+fits-full = record { count = refl; whole = λ e. ap (λ x. written x 0 (said (Err Full) [])) (written_none e 0); room = omega arith }
 
 fits-answer : (a : Answer) (moved : ℕ) → length (written_by a) ≤ card_room
     → Fits (record { reply = reply_of a moved; shows = written_by a })
 unfolding said said_length number_of told reply_of written_by
 fits-answer (refused n) moved h =
-    record { count = refl; whole = λ e. ap (λ x. written x 0 (said (Refused n) [])) (written_none e 0); room = omega arith }
+    record { count = refl; whole = λ e. ap (λ x. written x 0 (said (Err (Rule n)) [])) (written_none e 0); room = omega arith }
 fits-answer (good consumed rs) moved h = record { count = refl; whole = λ e. written_none _ 0; room = h }
 
 -- any bytes as a log lead to a splicer that the card can have too
@@ -126,37 +127,40 @@ quiet {k} {g} e m =
 pub renamed : {k j : Call} {g e : List ℕ} {r : Reply} {n o : List ℕ} → k ≡ j → Remembers k g e r n o → Remembers j g e r n o
 renamed {g = g} {e = e} {r = r} {n = n} {o = o} h m = subst (λ x. Remembers x g e r n o) h m
 
--- y: the record that was read, and x: what it was found to be
-module _ {x y : Record} (l : List ℕ) (f : y ≡ record_in l) (g : y ≡ x) where
-  pub record-within : span_of x ≤ length l
-  unfolding record_in record_of span_of
-  record-within = subst (λ z. span_of z ≤ length l) (sym f ∙ g) (go (next l) refl)
+-- y: the record that was read, if any
+module _ {y : Option Record} (l : List ℕ) (f : y ≡ record_in l) where
+  pub record-within : {x : Record} → y ≡ Some x → span_of x ≤ length l
+  unfolding record_in record_of
+  record-within {x} g = go (next l) refl (sym f ∙ g)
     where
-      go : (z : Next) → next l ≡ z → span_of (record_of z) ≤ length l
-      go (calls k m) e = let b = first l e in omega (arith, b.span, b.there)
-      go (ends k) e = omega arith
-      go stops e = omega arith
+      go : (z : Next) → next l ≡ z → record_of z ≡ Some x → span_of x ≤ length l
+      go (calls k m) e h =
+          let b = first l e in
+          omega (arith, b.span, b.there, ap span_of (same_Some b.kind x (sym b.kind_is ∙ h)))
+      go (ends k) e h = absurd (none-some x h)
+      go stops e h = absurd (none-some x h)
 
-  pub remembers-as : {k : Call} {i e : List ℕ} {r : Reply} {n o : List ℕ} → k ≡ made_of x l → Remembers k i e r n o
+  pub remembers-as : {x : Option Record} {k : Call} {i e : List ℕ} {r : Reply} {n o : List ℕ} → y ≡ x → k ≡ made_of x l
+      → Remembers k i e r n o
       → Remembers (call_for l) i e r n o
   unfolding call_for
-  remembers-as h m = renamed (h ∙ ap (λ z. made_of z l) (sym g ∙ f)) m
+  remembers-as g h m = renamed (h ∙ ap (λ z. made_of z l) (sym g ∙ f)) m
 
 module _ (l : List ℕ) where
-  pub open_is : (c : ℕ) → opens c ≡ made_of (Open c) l
+  pub open_is : (c : ℕ) → opens c ≡ made_of (Some (Open c)) l
   unfolding made_of call_of
   open_is c = refl
 
-  pub close-is : (c room : ℕ) → room ≡ card_room → closes c room ≡ made_of (Close c) l
+  pub close-is : (c room : ℕ) → room ≡ card_room → closes c room ≡ made_of (Some (Close c)) l
   unfolding made_of call_of
   close-is c room h = ap (closes c) h
 
-  pub tick_is : (seconds micros room : ℕ) → room ≡ card_room → ticks seconds micros room ≡ made_of (Tick seconds micros) l
+  pub tick_is : (seconds micros room : ℕ) → room ≡ card_room → ticks seconds micros room ≡ made_of (Some (Tick seconds micros)) l
   unfolding made_of call_of
   tick_is seconds micros room h = ap (ticks seconds micros) h
 
   -- the part of l between the mark and the end
-  pub message-is : (c size : ℕ) → messages c (part 2 (message_end size - 2) l) card_loans ≡ made_of (Message c size) l
+  pub message-is : (c size : ℕ) → messages c (part 2 (message_end size - 2) l) card_loans ≡ made_of (Some (Message c size)) l
   unfolding made_of call_of
   message-is c size = let e : message_end size - 2 ≡ 8 + size = omega arith in ap (λ n. messages c (part 2 n l) card_loans) e
 

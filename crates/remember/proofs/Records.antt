@@ -9,6 +9,8 @@ use lib.Dec.{eqb, ltb}
 use lib.ListN.{length, get_or, take, drop, length-append, length-drop}
 use lib.Seq.{length-take-le, take_all, drop-drop}
 use borrow.Author.Tests.{ltb-false, lt-ltb, le-ltb, le-leb, lt-leb, eqb-true, eqb-false}
+use Rattle.std.specs.Prelude.{Some}
+use Rattle.std.proofs.lemmas.Option.{same_Some}
 use Rattle.rules.specs.Bytes.{value, part, field, largest_size, message_size, oversize}
 use Rattle.rules.specs.Calls.{Call, opens, closes, messages, ticks}
 use Rattle.rules.specs.Card.{open_mark, close_mark, message_mark, tick_mark, mark_in, conn_in, message_from, seconds_in, micros_in}
@@ -17,7 +19,7 @@ use Rattle.rules.specs.Card.{Next, calls, ends, stops, next, next_message, next_
 use Rattle.rules.proofs.Tests.{by, clash}
 use Rattle.rules.proofs.Values.{field-one}
 use Rattle.recall_log.specs.declared.Record.{Record}
-use Rattle.recall_log.specs.declared.Record.TheVariants.{Open, Close, Message, Tick, None}
+use Rattle.recall_log.specs.declared.Record.TheVariants.{Open, Close, Message, Tick}
 use Rattle.recall_log.specs.Kept.{record_of, record_in, call_of, span_of}
 use Rattle.recall_log.proofs.Firsts.{first, part-front, part-take}
 use Rattle.remember.specs.declared.stdio.Came.{Came}
@@ -26,26 +28,27 @@ use Rattle.remember.specs.Remembered.{Filled, Whole, Ended, Reads}
 
 -- ## The bytes p, whatever follows
 
-made-is : (r : Record) (p : List ℕ) → 2 ≤ span_of r → made_of r p ≡ call_of r p
-unfolding made_of span_of
-made-is (Open c) p h = refl
-made-is (Close c) p h = refl
-made-is (Message c size) p h = refl
-made-is (Tick seconds micros) p h = refl
-made-is None p h = absurd (omega arith)
+made-is : (r : Record) (p : List ℕ) → made_of (Some r) p ≡ call_of r p
+unfolding made_of
+made-is (Open c) p = refl
+made-is (Close c) p = refl
+made-is (Message c size) p = refl
+made-is (Tick seconds micros) p = refl
 
 size-at : (p : List ℕ) → message_size (message_from p) ≡ field 4 2 p
 size-at p = ap (λ x. value (take 2 x)) (drop-drop 2 2 p)
 
 module _ (p : List ℕ) where
   -- all of them are one call
-  calls-whole : {k : Call} {m : List ℕ} → next p ≡ calls k m → span_of (record_of (calls k m)) ≡ length p → ends_with p ≡ false → Whole p
+  calls-whole : {k : Call} {m : List ℕ} {r : Record} → next p ≡ calls k m → record_of (calls k m) ≡ Some r → span_of r ≡ length p
+      → ends_with p ≡ false → Whole p
   unfolding call_for record_in
-  calls-whole {k} {m} e h f more =
+  calls-whole {k} {m} {r} e i h f more =
       let b = first p e in
-      let whole : take b.size p ≡ p = take_all b.size p (omega (arith, b.span)) in
+      let kind : b.kind ≡ r = same_Some b.kind r (sym b.kind_is ∙ i) in
+      let whole : take b.size p ≡ p = take_all b.size p (omega (arith, b.span, ap span_of kind, h)) in
       let same : call_for p ≡ k =
-      ap (λ x. made_of (record_of x) p) e ∙ made-is (record_of (calls k m)) p (omega (arith, b.span, b.two)) ∙ b.made in
+      ap (λ x. made_of (record_of x) p) e ∙ ap (λ x. made_of x p) b.kind_is ∙ made-is b.kind p ∙ b.made in
       ap (λ x. next (x ++ more)) (sym whole) ∙ b.again more ∙ ap (λ x. calls x more) (sym same)
       ∙ sym (ap (λ t. cond t (ends (call_for p)) (calls (call_for p) more)) f)
 
@@ -64,14 +67,14 @@ module _ (p : List ℕ) where
   open-whole : length p ≡ mark_end → eqb (mark_in p) open_mark ≡ true → Whole p
   unfolding next record_of span_of
   open-whole h e =
-      calls-whole {k = opens (conn_in p)} {m = drop mark_end p} (rw (le-ltb (length p) mark_end (omega arith), e) refl) (sym h)
+      calls-whole {k = opens (conn_in p)} {m = drop mark_end p} (rw (le-ltb (length p) mark_end (omega arith), e) refl) refl (sym h)
       (not_last (omega arith))
 
   close-whole : length p ≡ mark_end → eqb (mark_in p) open_mark ≡ false → eqb (mark_in p) close_mark ≡ true → Whole p
   unfolding next record_of span_of
   close-whole h c e =
       calls-whole {k = closes (conn_in p) card_room} {m = drop mark_end p} (rw (le-ltb (length p) mark_end (omega arith), c, e) refl)
-      (sym h)
+      refl (sym h)
       (not_last (omega arith))
 
   short-mark : length p < mark_end → next p ≡ stops
@@ -97,7 +100,7 @@ module _ (p : List ℕ) where
     unfolding next next_tick record_of span_of
     tick-whole e f h =
         calls-whole {k = ticks (seconds_in p) (micros_in p) card_room} {m = drop tick_end p}
-        (rw (le-ltb (length p) mark_end two, c, d, e, f, le-ltb (length p) tick_end (omega arith)) refl) (sym h)
+        (rw (le-ltb (length p) mark_end two, c, d, e, f, le-ltb (length p) tick_end (omega arith)) refl) refl (sym h)
         (rw (le-leb header_end (length p) (omega arith), mark-at (omega arith), e) refl)
 
     module _ (e : eqb (mark_in p) message_mark ≡ true) (ten : header_end ≤ length p) where
@@ -132,7 +135,7 @@ module _ (p : List ℕ) where
             ap (λ x. ltb largest_size x) (size-at p) ∙ o,
             le-ltb (length p) (message_end n) (omega (arith, size-at p)),
           ) refl)
-          (omega (arith, own, size-at p))
+          refl (omega (arith, own, size-at p))
           (rw (le-leb header_end (length p) ten, mark-at (omega arith), e, o) refl)
 
       -- "makes the call .. and stops"

@@ -14,7 +14,7 @@ use Rattle.recall.proofs.Recalls.{fresh-log}
 use Rattle.remember.specs.declared.Read.{Read}
 use Rattle.remember.specs.declared.Stop.{Stop}
 use Rattle.remember.specs.declared.Stop.TheVariants.{Over, Unwritten, Counted}
-use Rattle.remember.specs.declared.stdio.Written.{Written}
+use Rattle.standard_streams.specs.declared.Written.{Written}
 use Rattle.remember.specs.Said.{ends_with}
 use Rattle.remember.specs.Remembered.{fresh_log, Reads, Answers, Fed, over, last, failed, counted, goes, Turns, most, Stopped}
 

@@ -10,7 +10,7 @@ use Rattle.remember.specs.declared.Read.{Read}
 use Rattle.remember.specs.declared.Stop.{Stop}
 use Rattle.remember.specs.declared.Stop.TheVariants.{Over, Unwritten, Counted}
 use Rattle.remember.specs.declared.stdio.Came.{Came}
-use Rattle.remember.specs.declared.stdio.Written.{Written}
+use Rattle.standard_streams.specs.declared.Written.{Written}
 use Rattle.remember.specs.Said.{call_for, said, ends_with}
 
 -- ## The whole input: the card program's (rules' specs/Card), with the log in the splicer's place

@@ -1,4 +1,5 @@
 -- What the program makes of a record that it has read, and what it writes for it.
+use Rattle.std.specs.Prelude.{Option, None, Some, Ok, Err}
 use Rattle.std.specs.Prelude.{◌≡◌, Bool, cond, ◌&&◌, List, [], ◌∷◌, ℕ, ◌≤◌, eqb, leb, ltb, length, get_or, take}
 use Rattle.rules.specs.Bytes.{field, largest_size, written}
 use Rattle.rules.specs.Calls.{Call, messages}
@@ -6,19 +7,18 @@ use Rattle.rules.specs.HouseNumbers.{refused}
 use Rattle.rules.specs.Card.{open_mark, close_mark, message_mark, tick_mark, conn_in, message_from, mark_end, header_end}
 use Rattle.rules.specs.Card.{card_loans, told}
 use Rattle.recall_log.specs.declared.Record.{Record}
-use Rattle.recall_log.specs.declared.Record.TheVariants.{Open, Close, Message, Tick, None}
-use Rattle.recall_log.specs.declared.Reply.{Reply}
-use Rattle.recall_log.specs.declared.Reply.TheVariants.{Full, Refused, Done}
-use Rattle.recall_log.specs.Kept.{record_in, call_of, number_of}
+use Rattle.recall_log.specs.declared.Record.TheVariants.{Open, Close, Message, Tick}
+use Rattle.recall_log.specs.declared.Refused.TheVariants.{Full, Rule}
+use Rattle.recall_log.specs.Kept.{Reply, record_in, call_of, number_of}
 use Rattle.recall.specs.Recall.{recall_call}
 
 -- the call of the record that l begins with; "at a message header with MessageSize above 4,088 it makes the call": what begins no record is
 -- handed on as a message
-unfoldable pub made_of : Record → List ℕ → Call
-made_of (Open c) l = call_of (Open c) l
-made_of (Close c) l = call_of (Close c) l
-made_of (Message c size) l = call_of (Message c size) l
-made_of (Tick seconds micros) l = call_of (Tick seconds micros) l
+unfoldable pub made_of : Option Record → List ℕ → Call
+made_of (Some (Open c)) l = call_of (Open c) l
+made_of (Some (Close c)) l = call_of (Close c) l
+made_of (Some (Message c size)) l = call_of (Message c size) l
+made_of (Some (Tick seconds micros)) l = call_of (Tick seconds micros) l
 made_of None l = messages (conn_in l) (message_from l) card_loans
 
 unfoldable pub call_for : List ℕ → Call
@@ -26,14 +26,14 @@ call_for l = made_of (record_in l) l
 
 -- "It writes each call's output; a refusal is 0x45 and the number."
 unfoldable pub said : Reply → (shows : List ℕ) → List ℕ
-said Full shows = 0x45 ∷ number_of Full ∷ []
-said (Refused n) shows = told (refused n)
-said (Done did) shows = shows
+said (Err Full) shows = 0x45 ∷ number_of (Err Full) ∷ []
+said (Err (Rule n)) shows = told (refused n)
+said (Ok did) shows = shows
 
 unfoldable pub said_length : Reply → ℕ
-said_length Full = 2
-said_length (Refused n) = 2
-said_length (Done did) = did.written
+said_length (Err Full) = 2
+said_length (Err (Rule n)) = 2
+said_length (Ok did) = did.written
 
 -- behind the call, whose own output stands in the buffer e: only a refusal's bytes are still to be written
 pub record Says (r : Reply) (e : List ℕ) (len : ℕ) (o : List ℕ) : Type 0 where

@@ -4,26 +4,35 @@
 
 mod stdio;
 
-ghost use Rattle.std.specs.Prelude.{◌≡◌, ◌≤◌, length};
+ghost use Rattle.std.specs.Prelude.{Err, ◌≡◌, ◌≤◌, length};
 ghost use Rattle.rules.specs.Calls.{messages};
 ghost use Rattle.rules.specs.Card.{card_loans, card_room};
+ghost use Rattle.recall_log.specs.Kept.{number_of};
 ghost use Rattle.recall.specs.Recall.{Remembers};
 ghost use Rattle.remember.specs.Said.{call_for, Says, Plays, head_of, ends_with};
 ghost use Rattle.remember.specs.Remembered.{Reads, Answers, Stopped, fresh_log};
 
 use reading::LONGEST;
 use reading::numbers::number2;
-use recall_log::{Record, Reply};
+use recall_log::{
+    CLOSE_MARK, HEADER_END, MARK_END, MESSAGE_MARK, OPEN_MARK, Record, Refused, Reply, TICK_MARK,
+};
+use standard_streams::Written;
 use std::io::{Stdin, Stdout};
-use stdio::{Came, Written};
+use stdio::Came;
 
 // A mark, a connection, and the longest message: 4,088 bytes behind a header of 8.
 const RECORD: usize = 4098;
 
-// Where the parts of a record begin and end: the message, the header of one, or a tick.
-const MARK_END: usize = 2;
-
-const HEADER_END: usize = 10;
+// "house number 13" or a rule's.
+fn number_of(n: Refused) -> u8
+    ensures { result ≡ number_of (Err n) }
+{
+    match n {
+        Refused::Full => 13,
+        Refused::Rule(n) => reply::house_number(n),
+    }
+}
 
 // "a refusal is 0x45 and the number". The output of a good call stands there already.
 fn say(r: Reply, out: &mut [u8]) -> usize
@@ -31,17 +40,12 @@ fn say(r: Reply, out: &mut [u8]) -> usize
     ensures { Says r out.old result out.new }
 {
     match r {
-        Reply::Full => {
+        Ok(did) => did.written,
+        Err(n) => {
             out[0] = 0x45;
-            out[1] = 13;
+            out[1] = number_of(n);
             2
         }
-        Reply::Refused(n) => {
-            out[0] = 0x45;
-            out[1] = reply::house_number(n);
-            2
-        }
-        Reply::Done(did) => did.written,
     }
 }
 
@@ -63,14 +67,14 @@ fn call(log: &mut [u8], l: &[u8], out: &mut [u8]) -> Reply
     ensures { Remembers (call_for l.now) log.old out.old result log.new out.new }
 {
     match recall_log::record_at(l) {
-        Record::Open(c) => recall::open(&mut *log, c as u32),
-        Record::Close(c) => recall::close(&mut *log, c as u32, &mut *out),
-        Record::Message(c, size) => {
+        Some(Record::Open(c)) => recall::open(&mut *log, c as u32),
+        Some(Record::Close(c)) => recall::close(&mut *log, c as u32, &mut *out),
+        Some(Record::Message(c, size)) => {
             let end = HEADER_END + size as usize;
             message(&mut *log, c as u32, &l[MARK_END..end], &mut *out)
         }
-        Record::Tick(seconds, micros) => recall::tick(&mut *log, seconds, micros, &mut *out),
-        Record::None => message(&mut *log, l[1] as u32, &l[MARK_END..], &mut *out),
+        Some(Record::Tick(seconds, micros)) => recall::tick(&mut *log, seconds, micros, &mut *out),
+        None => message(&mut *log, l[1] as u32, &l[MARK_END..], &mut *out),
     }
 }
 
@@ -85,25 +89,19 @@ fn play_record(log: &mut [u8], l: &[u8], out: &mut [u8]) -> usize
 }
 
 // How many bytes a record has, as far as its mark tells: of a message the header; 0 behind another mark.
+// 0 and no Option: `head_of` of specs/Said is a number.
 fn head_of(mark: u8) -> usize
     ensures { result ≡ head_of mark }
 {
-    if mark == 0x4F {
-        return MARK_END;
+    match mark {
+        OPEN_MARK | CLOSE_MARK => MARK_END,
+        MESSAGE_MARK | TICK_MARK => HEADER_END,
+        _ => 0,
     }
-    if mark == 0x43 {
-        return MARK_END;
-    }
-    if mark == 0x4D {
-        return HEADER_END;
-    }
-    if mark == 0x54 {
-        return HEADER_END;
-    }
-    0
 }
 
 // A record that was read: how many bytes it has, 0 at the end, at a cut record or at another mark; and what came of it.
+// No Option: what came is counted where there is no record too, and `head_of` says 0 of another mark.
 #[derive(Clone, Copy)]
 struct Read {
     len: usize,
@@ -111,6 +109,7 @@ struct Read {
 }
 
 // Why the program ends: there is nothing more to play; its output is not taken; or it has counted its turns down.
+// Of its own: what is over says something else in each program.
 #[derive(Clone, Copy)]
 enum Stop {
     Over(Came),
@@ -143,7 +142,7 @@ fn read_record(stdin: Stdin, l: &mut [u8]) -> Read
         };
     }
     let size = number2(&*l, 4);
-    if kind == 0x54 || LONGEST < size {
+    if kind == TICK_MARK || LONGEST < size {
         return Read {
             len: HEADER_END,
             last: header,
@@ -152,20 +151,14 @@ fn read_record(stdin: Stdin, l: &mut [u8]) -> Read
     let end = HEADER_END + size as usize;
     let data = stdio::fill(stdin, &mut *l, header, end);
     let len = if stdio::is_whole(data) { end } else { 0 };
-    Read {
-        len: len,
-        last: data,
-    }
+    Read { len, last: data }
 }
 
 // Whether the record is the header of a message that is too long: "writes the refusal and stops".
 fn is_last(l: &[u8]) -> bool
     ensures { result ≡ ends_with l.now }
 {
-    if l.len() < HEADER_END {
-        return false;
-    }
-    l[0] == 0x4D && LONGEST < number2(l, 4)
+    HEADER_END <= l.len() && l[0] == MESSAGE_MARK && LONGEST < number2(l, 4)
 }
 
 // One record played, and what that gives handed to be written.
@@ -175,7 +168,7 @@ fn answer(stdout: Stdout, log: &mut [u8], l: &[u8], out: &mut [u8]) -> Written
     ensures { Answers log.old l.now result log.new }
 {
     let len = play_record(&mut *log, l, &mut *out);
-    stdio::write(stdout, &out[..len])
+    standard_streams::write(stdout, &out[..len])
 }
 
 // It goes on after 13. A proved loop has to end, and nothing says that the input does. So it counts its turns down, from a number that no
@@ -185,8 +178,7 @@ fn turns(stdin: Stdin, stdout: Stdout, log: &mut [u8], l: &mut [u8], out: &mut [
     requires out_len { length out.old ≡ card_room }
     ensures { Stopped log.old result }
 {
-    let mut left = u64::MAX;
-    while 0 < left {
+    for _turn in 0..u64::MAX {
         let r = read_record(stdin, &mut *l);
         let came = r.last;
         let n = r.len;
@@ -194,13 +186,12 @@ fn turns(stdin: Stdin, stdout: Stdout, log: &mut [u8], l: &mut [u8], out: &mut [
             return Stop::Over(came);
         }
         let written = answer(stdout, &mut *log, &l[..n], &mut *out);
-        if !stdio::is_taken(written) {
+        if !standard_streams::is_whole(written) {
             return Stop::Unwritten(written);
         }
         if is_last(&l[..n]) {
             return Stop::Over(came);
         }
-        left -= 1;
     }
     Stop::Counted
 }
@@ -209,8 +200,9 @@ fn turns(stdin: Stdin, stdout: Stdout, log: &mut [u8], l: &mut [u8], out: &mut [
 fn play(stdin: Stdin, stdout: Stdout) -> Stop
     ensures { Stopped fresh_log result }
 {
-    let mut log = stdio::large_buffer();
-    recall::fresh(&mut log);
+    let mut log = standard_streams::large_buffer();
+    // No refusal: it is as long as a log.
+    let _ = recall::fresh(&mut log);
     let mut l = [0; RECORD];
     let mut out = [0; 4096];
     turns(stdin, stdout, &mut log, &mut l, &mut out)

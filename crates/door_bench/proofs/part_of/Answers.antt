@@ -1,7 +1,6 @@
 -- By whether something is due.
 -- Rests on proofs/Staged.
 use Rattle.door_bench.proofs.Staged.{part-some, part_none}
-use borrow.Author.Rules.{rules}
 use Rattle.door_bench.proofs.part_of.Goals as goal
 
 pub returns-then-s : goal.returns-then-s

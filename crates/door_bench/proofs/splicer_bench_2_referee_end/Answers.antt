@@ -2,7 +2,6 @@
 use mathlib.Core.Path.{ap, ◌∙◌}
 use Rattle.follow.specs.Following.{end_by}
 use Rattle.door_bench.specs.Referee.{verdict_words}
-use borrow.Author.Rules.{rules}
 use Rattle.door_bench.proofs.splicer_bench_2_referee_end.Goals as goal
 
 pub returns : goal.returns

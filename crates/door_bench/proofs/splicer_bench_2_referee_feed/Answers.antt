@@ -1,7 +1,6 @@
 -- The words show the stage, before and after.
 -- Rests on proofs/Staged.
 use Rattle.door_bench.proofs.Staged.{holds_as, fed-as}
-use borrow.Author.Rules.{rules}
 use Rattle.door_bench.proofs.splicer_bench_2_referee_feed.Goals as goal
 
 pub feed-t-requires : goal.feed-t-requires

@@ -1,7 +1,6 @@
 -- The reply is that of follow's fresh, and the stage the first.
 use mathlib.Core.Path.{ap, ◌∙◌}
 use Rattle.door_bench.specs.Referee.{stage_words}
-use borrow.Author.Rules.{rules}
 use Rattle.door_bench.proofs.splicer_bench_2_referee_fresh.Goals as goal
 
 pub returns : goal.returns

@@ -1,6 +1,6 @@
 -- The kept bytes with the new one are no whole entry, or one that ends there.
 -- Rests on proofs/Pieces.
-use Rattle.std.proofs.Common.{sym, refl, length-take-le, rules}
+use Rattle.std.proofs.Common.{sym, refl, length-take-le}
 use Rattle.follow.proofs.Pieces.{byte_fits, byte-open, byte-whole}
 use Rattle.follow.proofs.byte.Goals as goal
 
@@ -25,8 +25,8 @@ returns-then-w-eq0 c =
           c.if-w-eq0.true;
     }
 
-pub returns : goal.returns
-returns c =
+pub returns-else-w-eq0 : goal.returns-else-w-eq0
+returns-else-w-eq0 c =
     record {
       taken_value = refl;
       feeds = byte-whole c.args.s _ _ _ _ c.requires.holds c.requires.told_value c.args.x c.run-w.ensures c.requires.kept_len

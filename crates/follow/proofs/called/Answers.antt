@@ -1,6 +1,5 @@
 -- Something is still due, or the call is made.
 -- Rests on proofs/Steps.
-use Rattle.std.proofs.Common.{rules}
 use Rattle.follow.proofs.Steps.{with-stage, call-wrong, call_at}
 use Rattle.follow.proofs.called.Goals as goal
 

@@ -1,6 +1,6 @@
 -- The record is the beginning of what is due, or it is not.
 -- Rests on proofs/Steps.
-use Rattle.std.proofs.Common.{sym, ◌∙◌, arith, length-take-le, rules}
+use Rattle.std.proofs.Common.{sym, ◌∙◌, arith, length-take-le}
 use Rattle.judge.proofs.Going.{wrote-there}
 use Rattle.follow.proofs.Steps.{with-stage, within-at, record-wrong, record-at}
 use Rattle.follow.proofs.compared.Goals as goal
@@ -9,8 +9,8 @@ pub slice_bounds-begins_with-end : goal.slice_bounds-begins_with-end
 slice_bounds-begins_with-end c =
     sym (length-take-le c.args.n c.args.l.now (wrote-there c.args.l.now c.args.n c.requires.l_value))
 
-pub overflow_add-t : goal.overflow_add-t
-overflow_add-t c =
+pub overflow_add-stage : goal.overflow_add-stage
+overflow_add-stage c =
     let i = within-at c.args.s c.args.l.now c.args.due.now c.args.n c.requires.from_le_end c.requires.end_in_bounds c.requires.l_value
     (sym c.begins_with.ensures ∙ c.if-begins_with.true) in
     omega (arith, c.requires.end_in_bounds)

@@ -1,5 +1,4 @@
-use Rattle.std.proofs.Common.{◌+◌, ◌-◌, ◌^◌, ◌<◌, ◌≤◌, length, take, arith, rules}
-use Rattle.follow.specs.Following.{Feeds}
+use Rattle.std.proofs.Common.{arith, rules}
 use Rattle.follow.proofs.Pieces.{rest_some, feeds-none, feeds-part, part-there, feeds-all, feeds-rest}
 use Rattle.follow.proofs.feed.Goals as goal
 

@@ -1,8 +1,7 @@
 -- The invariant: the bytes passed were handed in.
 -- Rests on proofs/Pieces: a part more, and what was told stays.
-use Rattle.std.proofs.Common.{◌+◌, ◌-◌, ◌^◌, ◌<◌, ◌≤◌, length, take, arith, rules}
+use Rattle.std.proofs.Common.{◌-◌, ◌^◌, ◌<◌, ◌≤◌, length, take}
 use Rattle.follow.specs.Following.{Feeds}
-use Rattle.follow.proofs.Pieces.{rest_some, feeds-none, feeds-part, part-there, feeds-all, feeds-rest}
 use Rattle.follow.proofs.feed.Given as goal
 
 abbrev pub invariant-loop-i : goal.invariant-loop-i

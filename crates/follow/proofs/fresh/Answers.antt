@@ -1,6 +1,5 @@
 -- The engine's fresh is the referee's, and nothing is kept.
 -- Rests on proofs/Saying and on the promise of the engine's fresh.
-use Rattle.std.proofs.Common.{rules}
 use Rattle.follow.proofs.Saying.{begins-first}
 use Rattle.follow.proofs.fresh.Goals as goal
 

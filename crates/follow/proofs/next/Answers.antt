@@ -1,6 +1,5 @@
 -- Something is kept, and one byte more goes behind it; or whole entries lie there; or the first is cut.
 -- Rests on proofs/Pieces.
-use Rattle.std.proofs.Common.{rules}
 use Rattle.follow.proofs.Pieces.{takes_whole, takes-byte, holds_same, feeds-same}
 use Rattle.follow.proofs.next.Goals as goal
 

@@ -1,5 +1,5 @@
-use Rattle.std.proofs.Common.{◌-◌, ◌^◌, ◌<◌, length, arith, rules}
-use Rattle.follow.proofs.Steps.{Gone, gone-none, gone-there, gone-more, runs-more}
+use Rattle.std.proofs.Common.{arith}
+use Rattle.follow.proofs.Steps.{gone-none, gone-there, gone-more, runs-more}
 use Rattle.follow.proofs.run.Goals as goal
 
 pub loop-t-init : goal.loop-t-init
@@ -27,11 +27,6 @@ overflow_add-at c =
 
 pub returns-then-w-eq0 : goal.returns-then-w-eq0
 returns-then-w-eq0 c =
-    let loop = c.loop-t in
-    runs-more loop.invariant.0 c.step-w.ensures
-
-pub returns-then-t-ne-IN_ORDER : goal.returns-then-t-ne-IN_ORDER
-returns-then-t-ne-IN_ORDER c =
     let loop = c.loop-t in
     runs-more loop.invariant.0 c.step-w.ensures
 

@@ -1,7 +1,7 @@
 -- The invariant: the entries passed were gone through, and nothing was told.
 -- Rests on proofs/Steps: one entry more.
-use Rattle.std.proofs.Common.{◌-◌, ◌^◌, ◌<◌, length, arith, rules}
-use Rattle.follow.proofs.Steps.{Gone, gone-none, gone-there, gone-more, runs-more}
+use Rattle.std.proofs.Common.{◌-◌, ◌^◌, ◌<◌, length}
+use Rattle.follow.proofs.Steps.{Gone}
 use Rattle.follow.proofs.run.Given as goal
 
 abbrev pub invariant-loop-t : goal.invariant-loop-t

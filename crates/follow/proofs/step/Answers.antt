@@ -1,9 +1,7 @@
 -- By the kind of the entry.
 -- Rests on proofs/Steps and on the promises of what each kind calls.
-use Rattle.std.proofs.Common.{sym, refl, ◌∙◌, rules}
-use Rattle.recording.specs.declared.Entry.TheVariants.{Cut, End}
-use Rattle.follow.specs.Following.{is_open, span_of}
-use Rattle.follow.proofs.Steps.{open_step}
+use Rattle.std.proofs.Common.{sym, ◌∙◌}
+use Rattle.follow.proofs.Steps.{open_last}
 use Rattle.follow.proofs.step.Goals as goal
 
 pub called-requires : goal.called-requires
@@ -31,16 +29,10 @@ returns-in-Wrote c =
     c.compared.ensures c.args.m.now c.args.b.now c.requires.stands
 
 pub returns-in-Cut : goal.returns-in-Cut
-unfolding is_open span_of
 returns-in-Cut c =
-    open_step c.args.s _ _ _ _ Cut c.requires.stands c.requires.told_value (sym c.entry_at.ensures ∙ c.in-Cut.is) refl refl
+    open_last c.args.s _ _ _ _ _ c.requires.stands c.requires.told_value (sym c.entry_at.ensures) c.in-Cut.is
 
 pub returns-in-Another : goal.returns-in-Another
 returns-in-Another c =
     c.strange.ensures c.args.l.now c.args.m.now c.args.b.now c.args.due.now
     (sym c.entry_at.ensures ∙ c.in-Another.is) c.requires.stands
-
-pub returns-in-End : goal.returns-in-End
-unfolding is_open span_of
-returns-in-End c =
-    open_step c.args.s _ _ _ _ End c.requires.stands c.requires.told_value (sym c.entry_at.ensures ∙ c.in-End.is) refl refl

@@ -1,13 +1,10 @@
 -- The invariant: the first unknown mark of the bytes that are left is that of all.
 -- Rests on `says` of proofs/Loops: what the entry at a place says of it.
-use mathlib.Core.Path.{◌≡◌, sym, ◌∙◌}
+use mathlib.Core.Path.{◌≡◌}
 use Prim.Native.Nat.{◌-◌, ◌≤◌}
-use native.Mathlib.Omega.{arith}
 use lib.ListN.{length}
-use borrow.Author.Rules.{rules}
 use Rattle.recording.specs.Recording.{first_unknown}
 use Rattle.recording.proofs.Refusing.{from}
-use Rattle.judge.proofs.Loops.{says, from_all}
 use Rattle.judge.proofs.first_unknown.Given as goal
 
 abbrev pub invariant-loop-n : goal.invariant-loop-n

@@ -1,7 +1,6 @@
 -- The memory shows the card program's splicer, and the turns judge from there.
 -- Rests on the promise of fresh and of the card program's name.
 use mathlib.Core.Path.{◌∙◌}
-use borrow.Author.Rules.{rules}
 use Rattle.judge.proofs.Loops.{judged-start}
 use Rattle.judge.proofs.judge.Goals as goal
 

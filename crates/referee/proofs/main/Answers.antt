@@ -11,5 +11,5 @@ holds_at m b o k e h = subst (λ y. Holds y m b o k) (sym e) h
 
 pub turns-requires : goal.turns-requires
 turns-requires c =
-    let begins = c.fresh-answer.ensures.by_index (replicate 4096 0) (replicate 4098 0) (length-replicate {A = ℕ} 4098 0) in
+    let begins = c.fresh.ensures.by_index (replicate 4096 0) (replicate 4098 0) (length-replicate {A = ℕ} 4098 0) in
     holds_at _ _ _ _ c.first.ensures begins.holds

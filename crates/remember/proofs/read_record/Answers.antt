@@ -6,7 +6,8 @@ use Rattle.remember.proofs.Records.{marked-first, filled-all, marked-on, size-on
 use Rattle.remember.proofs.Records.{reads-cut-mark, reads-mark, reads-cut-header, reads-tick, reads-oversize}
 use Rattle.remember.proofs.Records.{reads-cut-data, reads-message}
 use Rattle.remember.proofs.read_record.Goals as goal
-use Rattle.remember.proofs.read_record.Goals.{then-kind-eq84-via-then-kind-eq84, then-kind-eq84-via-else-kind-eq84+then-size-gt-LONGEST}
+use Rattle.remember.proofs.read_record.Goals.{then-kind-eq-TICK_MARK-via-then-kind-eq-TICK_MARK}
+use Rattle.remember.proofs.read_record.Goals.{then-kind-eq-TICK_MARK-via-else-kind-eq-TICK_MARK+then-size-gt-LONGEST}
 
 pub returns-then-not-is_whole : goal.returns-then-not-is_whole
 returns-then-not-is_whole c =
@@ -31,8 +32,8 @@ returns-then-not-is_whole-2 c =
     reads-cut-header header.ensures second (long-mark _ (omega (arith, c.head_of-head.ensures, c.if-head-lt-HEADER_END.false))) two
     (sym c.is_whole-2.ensures ∙ c.if-not-is_whole-2.true)
 
-pub returns-then-kind-eq84 : goal.returns-then-kind-eq84
-returns-then-kind-eq84 c =
+pub returns-then-kind-eq-TICK_MARK : goal.returns-then-kind-eq-TICK_MARK
+returns-then-kind-eq-TICK_MARK c =
     let mark = c.fill-mark in
     let header = c.fill-header in
     let long = mark.auto.l ∙ c.requires in
@@ -41,10 +42,10 @@ returns-then-kind-eq84 c =
     let second = marked-on header.ensures first (header.auto.l ∙ long) (omega (arith, two)) (omega (arith, two)) in
     let kind = long-mark _ (omega (arith, c.head_of-head.ensures, c.if-head-lt-HEADER_END.false)) in
     let whole = sym c.is_whole-2.ensures ∙ c.if-not-is_whole-2.false in
-    elim c.then-kind-eq84.branch [
-      | then-kind-eq84-via-then-kind-eq84 w ↦ reads-tick header.ensures second whole w.if-kind-eq84.true
-      | then-kind-eq84-via-else-kind-eq84+then-size-gt-LONGEST w ↦
-          reads-oversize header.ensures second whole kind w.if-kind-eq84.false c.number2-size.ensures
+    elim c.then-kind-eq-TICK_MARK.branch [
+      | then-kind-eq-TICK_MARK-via-then-kind-eq-TICK_MARK w ↦ reads-tick header.ensures second whole w.if-kind-eq-TICK_MARK.true
+      | then-kind-eq-TICK_MARK-via-else-kind-eq-TICK_MARK+then-size-gt-LONGEST w ↦
+          reads-oversize header.ensures second whole kind w.if-kind-eq-TICK_MARK.false c.number2-size.ensures
           (lt-ltb 4088 _ w.if-size-gt-LONGEST.true)
     ]
 
@@ -61,7 +62,7 @@ returns-then-is_whole c =
     let third = marked-on body.ensures second (body.auto.l ∙ second.long) (omega (arith, ten)) (omega (arith, ten)) in
     let kind = long-mark _ (omega (arith, c.head_of-head.ensures, c.if-head-lt-HEADER_END.false)) in
     let size = c.number2-size.ensures ∙ sym (size-on body.ensures second third ten) in
-    reads-message body.ensures third kind c.if-kind-eq84.false ten size (le-ltb 4088 _ c.if-size-gt-LONGEST.false)
+    reads-message body.ensures third kind c.if-kind-eq-TICK_MARK.false ten size (le-ltb 4088 _ c.if-size-gt-LONGEST.false)
     (sym c.is_whole-3.ensures ∙ c.if-is_whole.true)
 
 pub returns-else-is_whole : goal.returns-else-is_whole
@@ -77,5 +78,5 @@ returns-else-is_whole c =
     let third = marked-on body.ensures second (body.auto.l ∙ second.long) (omega (arith, ten)) (omega (arith, ten)) in
     let kind = long-mark _ (omega (arith, c.head_of-head.ensures, c.if-head-lt-HEADER_END.false)) in
     let size = c.number2-size.ensures ∙ sym (size-on body.ensures second third ten) in
-    reads-cut-data body.ensures third kind c.if-kind-eq84.false ten size (le-ltb 4088 _ c.if-size-gt-LONGEST.false)
+    reads-cut-data body.ensures third kind c.if-kind-eq-TICK_MARK.false ten size (le-ltb 4088 _ c.if-size-gt-LONGEST.false)
     (sym c.is_whole-3.ensures ∙ c.if-is_whole.false)

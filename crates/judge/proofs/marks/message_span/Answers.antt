@@ -1,7 +1,6 @@
 -- Each answer follows from the tests that led there.
 -- Rests on message-span-at: the definition behind its first test, with the MessageSize as the code reads it.
 use native.Mathlib.Omega.{arith}
-use borrow.Author.Rules.{rules}
 use borrow.Author.Tests.{lt-ltb, le-ltb}
 use lib.ListN.{length}
 use Rattle.rules.specs.Bytes.{largest_size}

@@ -2,7 +2,6 @@
 -- Rests on proofs/Going: a call that is played is the definition's.
 use mathlib.Core.Path.{sym, ◌∙◌}
 use native.Mathlib.Omega.{arith}
-use borrow.Author.Rules.{rules}
 use borrow.Author.Tests.{ltb-true, ltb-false}
 use Rattle.judge.proofs.Going.{made_some, call-unmet, call-on}
 use Rattle.judge.proofs.turns.called.Goals as goal

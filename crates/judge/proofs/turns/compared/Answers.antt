@@ -3,7 +3,6 @@
 use mathlib.Core.Path.{sym, ◌∙◌}
 use mathlib.Core.List.{[]}
 use native.Mathlib.Omega.{arith}
-use borrow.Author.Rules.{rules}
 use lib.Seq.{length-take-le}
 use Rattle.judge.proofs.Going.{wrote-there, record-wrong, record-within, record-on}
 use Rattle.judge.proofs.turns.compared.Goals as goal

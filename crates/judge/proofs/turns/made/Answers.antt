@@ -1,5 +1,4 @@
 -- What feed promises of a record that is played.
-use borrow.Author.Rules.{rules}
 use Rattle.judge.proofs.turns.made.Goals as goal
 
 pub returns : goal.returns

@@ -1,8 +1,5 @@
-use Prim.Native.Nat.{◌-◌, ◌^◌, ◌<◌}
 use native.Mathlib.Omega.{arith}
-use lib.ListN.{length}
-use borrow.Author.Rules.{rules}
-use Rattle.judge.proofs.Loops.{Running, running_none, running-stands, running-over, running-within, running_more}
+use Rattle.judge.proofs.Loops.{running_none, running-stands, running-over, running-within, running_more}
 use Rattle.judge.proofs.turns.run.Goals as goal
 
 pub loop-n-init : goal.loop-n-init
@@ -21,7 +18,7 @@ overflow_add-at c =
     omega (
       arith,
       running-within loop.invariant.0 t.result t.new.m t.new.b t.new.due t.ensures
-          c.in-On.is,
+          c.in-Continue.is,
     )
 
 pub loop-n-smaller : goal.loop-n-smaller
@@ -31,7 +28,7 @@ loop-n-smaller c =
     omega (
       arith,
       running-within loop.invariant.0 t.result t.new.m t.new.b t.new.due t.ensures
-          c.in-On.is,
+          c.in-Continue.is,
     )
 
 pub loop-n-preserved : goal.loop-n-preserved
@@ -39,13 +36,13 @@ loop-n-preserved c =
     let loop = c.loop-n in
     let t = c.turn in (
       running_more loop.invariant.0 t.result t.new.m t.new.b t.new.due t.ensures
-          c.in-On.is,
+          c.in-Continue.is,
       loop.invariant.1,
     )
 
-pub returns-in-Over : goal.returns-in-Over
-returns-in-Over c =
+pub returns-in-Break : goal.returns-in-Break
+returns-in-Break c =
     let loop = c.loop-n in
     let t = c.turn in
     running-over loop.invariant.0 t.result t.new.m t.new.b t.new.due t.ensures
-    c.in-Over.is
+    c.in-Break.is

@@ -1,10 +1,8 @@
 -- The invariant: the judgement of the bytes that are left, with what is still due, is that of all.
 -- Rests on proofs/Loops: one more entry.
 use Prim.Native.Nat.{◌-◌, ◌^◌, ◌<◌}
-use native.Mathlib.Omega.{arith}
 use lib.ListN.{length}
-use borrow.Author.Rules.{rules}
-use Rattle.judge.proofs.Loops.{Running, running_none, running-stands, running-over, running-within, running_more}
+use Rattle.judge.proofs.Loops.{Running}
 use Rattle.judge.proofs.turns.run.Given as goal
 
 abbrev pub invariant-loop-n : goal.invariant-loop-n

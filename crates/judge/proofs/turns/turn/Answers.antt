@@ -1,8 +1,7 @@
 -- By the kind of the entry.
 -- Rests on proofs/Going: what each kind of entry says.
 use mathlib.Core.Path.{sym, ◌∙◌}
-use borrow.Author.Rules.{rules}
-use Rattle.judge.proofs.Going.{cut-judged, another-judged, end_on}
+use Rattle.judge.proofs.Going.{unread-judged, end_on}
 use Rattle.judge.proofs.turns.turn.Goals as goal
 
 pub called-requires : goal.called-requires
@@ -25,15 +24,10 @@ returns-in-Wrote c =
     c.compared.ensures c.args.m.now c.args.b.now c.requires.lent
 
 pub returns-in-Cut : goal.returns-in-Cut
-returns-in-Cut c =
-    cut-judged _ c.args.l.now (sym c.entry_at.ensures ∙ c.in-Cut.is)
-
-pub returns-in-Another : goal.returns-in-Another
-returns-in-Another c =
-    another-judged _ c.args.l.now (sym c.entry_at.ensures ∙ c.in-Another.is)
+returns-in-Cut c = unread-judged _ c.args.l.now c.entry_at.ensures c.in-Cut.is
 
 pub returns-in-End : goal.returns-in-End
 returns-in-End c =
     end_on c.args.g c.args.l.now c.args.m.now c.args.b.now c.args.due.now c.requires.stands
     (sym c.entry_at.ensures ∙ c.in-End.is)
-    ∙ sym c.ended.ensures
+    ∙ sym c.at_end.ensures
