@@ -1,10 +1,10 @@
 -- Demands: the accounts that are kept from calls and answers, entry by entry, with every number of an entry another one; each row is for a
 -- reading that takes one number for its neighbour, or changes what it should keep. By hand, from the comments of each. Assumes nothing.
-use Rattle.std.specs.Prelude.{◌≡◌, refl, Bool, true, false, List, [], ◌∷◌, map, ℕ, replicate}
+use Rattle.std.specs.Prelude.{◌≡◌, refl, Bool, true, false, List, [], ◌∷◌, map, ℕ, replicate, None, Option, Some}
 use Rattle.std.proofs.Common.{ap}
 use Rattle.rules.specs.declared.Start.TheVariants.{Linked}
 use Rattle.rules.specs.declared.Message.{Message}
-use Rattle.rules.specs.declared.Message.TheVariants.{Init, Alive, Splice, Abort, Config, Extended, Unreadable}
+use Rattle.rules.specs.declared.Message.TheVariants.{Init, Alive, Splice, Abort, Config, Extended}
 use Rattle.rules.specs.Records.{Record, General, InitResponse, AliveResponse, SpliceResponse, SpliceComplete, AbortResponse, CueRequest}
 use Rattle.rules.specs.Records.{ExtendedFound, ExtendedNone, ConfigResponse}
 use Rattle.rules.specs.Calls.{closes}
@@ -65,12 +65,12 @@ left-waiting = refl
 
 -- ## What a message asks: a Splice_Request alone asks anything
 
-request : Message
+request : Option Message
 request =
-    Splice (record { id = 2; start = Linked 6; duration = record { 0 = 7 }; event = 5; access = 3; overrides = 1; mux = 4 })
+    Some (Splice (record { id = 2; start = Linked 6; duration = record { 0 = 7 }; event = 5; access = 3; overrides = 1; mux = 4 }))
 
-messages : List Message
-messages = Init 9 ∷ Alive ∷ request ∷ Abort 9 ∷ Extended 9 ∷ Config ∷ Unreadable ∷ []
+messages : List (Option Message)
+messages = Some (Init 9) ∷ Some Alive ∷ request ∷ Some (Abort 9) ∷ Some (Extended 9) ∷ Some Config ∷ None ∷ []
 
 asked : map mux_asked messages ∷ map event_asked messages ∷ map prior_asked messages ∷ map overrides_asked messages ∷ []
     ≡ (0 ∷ 0 ∷ 4 ∷ 0 ∷ 0 ∷ 0 ∷ 0 ∷ []) ∷ (0 ∷ 0 ∷ 5 ∷ 0 ∷ 0 ∷ 0 ∷ 0 ∷ []) ∷ (0 ∷ 0 ∷ 6 ∷ 0 ∷ 0 ∷ 0 ∷ 0 ∷ [])
@@ -79,11 +79,12 @@ unfolding account request messages
 asked = refl
 
 -- "End is start plus Duration": 3, the end of number 2, and 700 ninths
-behind : Message
+behind : Option Message
 behind =
-    Splice (record { id = 9; start = Linked 2; duration = record { 0 = 7 }; event = 5; access = 3; overrides = 1; mux = 4 })
+    Some (Splice (record { id = 9; start = Linked 2; duration = record { 0 = 7 }; event = 5; access = 3; overrides = 1; mux = 4 }))
 
-ends_asked : map (λ m. end_asked 1 m (entry 0 false ∷ [])) (Init 9 ∷ Alive ∷ behind ∷ Abort 9 ∷ Extended 9 ∷ Config ∷ Unreadable ∷ [])
+ends_asked : map (λ m. end_asked 1 m (entry 0 false ∷ []))
+    (Some (Init 9) ∷ Some Alive ∷ behind ∷ Some (Abort 9) ∷ Some (Extended 9) ∷ Some Config ∷ None ∷ [])
     ≡ 0 ∷ 0 ∷ 703 ∷ 0 ∷ 0 ∷ 0 ∷ 0 ∷ []
 unfolding account entry behind
 ends_asked = refl
@@ -102,8 +103,8 @@ nobody : newest 1 9 (airing 3 false false false ∷ [])
 unfolding account airing
 nobody = refl
 
-airings-asked : map (λ m. airing_asked 1 8 m (airing 3 true false false ∷ [])) (Init 9 ∷ Alive ∷ behind ∷ Abort 9 ∷ Extended 9 ∷ Config
-    ∷ Unreadable ∷ [])
+airings-asked : map (λ m. airing_asked 1 8 m (airing 3 true false false ∷ []))
+    (Some (Init 9) ∷ Some Alive ∷ behind ∷ Some (Abort 9) ∷ Some (Extended 9) ∷ Some Config ∷ None ∷ [])
     ≡ granted 1 8 0 0 0 ∷ granted 1 8 0 0 0 ∷ granted 1 8 3 500 1200 ∷ granted 1 8 0 0 0 ∷ granted 1 8 0 0 0 ∷ granted 1 8 0 0 0
     ∷ granted 1 8 0 0 0 ∷ []
 unfolding account airing behind

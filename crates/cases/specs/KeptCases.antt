@@ -1,10 +1,8 @@
 -- 02, CR 6: what each connection keeps (demands' Kept), from histories written down by hand, the bytes of requests and of answers; which
 -- requests its statements speak of, and the State of an Alive_Response. Assumes nothing.
-use Rattle.std.specs.Prelude.{◌≡◌, refl, true, false, List, [], ◌∷◌, ◌++◌, map, ℕ, suc, replicate}
+use Rattle.std.specs.Prelude.{◌≡◌, refl, true, false, List, [], ◌∷◌, ◌++◌, map, ℕ, suc, replicate, Err, Ok, Result}
 use Rattle.std.proofs.Common.{ap}
 use Prim.Native.String.{String}
-use Rattle.rules.specs.declared.Framing.{Framing}
-use Rattle.rules.specs.declared.Framing.TheVariants.{Framed, Unframed}
 use Rattle.rules.specs.declared.Refusal.TheVariants.{NotOpen, NoRoom, LongSection}
 use Rattle.rules.specs.Lists.{bit}
 use Rattle.rules.specs.State.{Splicer}
@@ -17,6 +15,8 @@ use Rattle.demands.specs.Kept.{changed, kept_told, AsksConfig, AsksAlive, Ready,
 use Rattle.cases.specs.Scenario.{hex}
 use Rattle.cases.specs.Computing.{computing}
 use Rattle.cases.specs.Heard.{heard, silent, denied, till, says, each, small, unlike, unordered, not-true, not-false}
+use Rattle.rules.specs.declared.Header.{Header}
+use Rattle.rules.specs.declared.Refusal.{Refusal}
 
 -- what the definitions of demands' Kept are computed with
 unfoldable telling : ℕ
@@ -159,13 +159,13 @@ state-in = refl
 -- ## The requests that the statements speak of
 
 -- a message's MessageID and MessageSize, 1 more; 0 where it is none
-id_of : Framing → ℕ
-id_of (Framed id size) = suc id
-id_of (Unframed n) = 0
+id_of : Result Header Refusal → ℕ
+id_of (Ok h) = suc h.id
+id_of (Err n) = 0
 
-size_of : Framing → ℕ
-size_of (Framed id size) = suc size
-size_of (Unframed n) = 0
+size_of : Result Header Refusal → ℕ
+size_of (Ok h) = suc h.size
+size_of (Err n) = 0
 
 lent : Loans
 lent = lending 4096

@@ -1,6 +1,6 @@
 -- Numbers are compared whole, in answers, in calls and in the sessions held: rows with numbers that are alike in their low 7 or 8 bits, or
 -- but for their highest. From 01 and 02, by hand. Assumes nothing.
-use Rattle.std.specs.Prelude.{◌≡◌, refl, true, false, List, [], ◌∷◌, ◌++◌, map, ℕ, replicate}
+use Rattle.std.specs.Prelude.{◌≡◌, refl, true, false, List, [], ◌∷◌, ◌++◌, map, ℕ, replicate, Some}
 use Prim.Native.String.{String}
 use Rattle.rules.specs.declared.Start.TheVariants.{Timed, Linked}
 use Rattle.rules.specs.declared.Request.{Request}
@@ -9,7 +9,6 @@ use Rattle.rules.specs.declared.Link.TheVariants.{Initialised}
 use Rattle.rules.specs.declared.Cue.{Cue}
 use Rattle.rules.specs.declared.Cue.TheVariants.{At, Timeless, Bad}
 use Rattle.rules.specs.declared.Refusal.TheVariants.{NoConnection}
-use Rattle.rules.specs.declared.When.TheVariants as when
 use Rattle.rules.specs.State.{Splicer, empty, same_number, starts_at, starts_after, ends_at, with_link}
 use Rattle.rules.specs.Recent.{none_held}
 use Rattle.rules.specs.Records.{General}
@@ -223,7 +222,7 @@ in_words : air_row (distinct 7 ∷ distinct 8 ∷ []) ≡ 1 ∷ 1 ∷ 2 ∷ 400 
 unfolding computing distinct
 in_words = refl
 
-out-of-reach : map (λ t. due_row (when.At (record { 0 = t }))) (38654705664000000 ∷ 38654705663999991 ∷ [])
+out-of-reach : map (λ t. due_row (Some (record { 0 = t }))) (38654705664000000 ∷ 38654705663999991 ∷ [])
     ≡ (1 ∷ 38654705664000000 ∷ 0 ∷ 0 ∷ []) ∷ (2 ∷ 38654705663999991 ∷ 4294967295 ∷ 999999 ∷ []) ∷ []
 unfolding computing
 out-of-reach = refl

@@ -1,9 +1,9 @@
 -- What theorems speak of beside the rules: the rolling card's calls as document 01's, descriptors one by one, the ranges of what is read.
 -- By hand, with the numbers on both sides of each bound. Assumes nothing.
-use Rattle.std.specs.Prelude.{◌≡◌, refl, true, false, List, [], ◌∷◌, ◌++◌, map, ℕ, length, replicate}
+use Rattle.std.specs.Prelude.{◌≡◌, refl, true, false, List, [], ◌∷◌, ◌++◌, map, ℕ, length, replicate, None, Some}
 use Rattle.std.proofs.Common.{arith}
 use Rattle.rules.specs.declared.Start.TheVariants.{Timed, Linked}
-use Rattle.rules.specs.declared.Message.TheVariants.{Init, Alive, Splice, Abort, Config, Extended, Unreadable}
+use Rattle.rules.specs.declared.Message.TheVariants.{Init, Alive, Splice, Abort, Config, Extended}
 use Rattle.rules.specs.declared.Refusal.TheVariants.{AlreadyOpen, NotOpen}
 use Rattle.rules.specs.declared.Link.TheVariants.{Closed, Opened}
 use Rattle.rules.specs.declared.Session.{Session}
@@ -154,13 +154,14 @@ within = (omega arith, omega arith)
 not_within : (Within (Timed (record { 0 = 4503599627370496 })) → ⊥) × (Within (Linked 4294967295) → ⊥)
 not_within = ((λ h. omega (arith, h)), (λ h. omega (arith, h)))
 
-reads : Reads (Init 65535) × Reads Alive × Reads (Abort 4294967295) × Reads (Extended 4294967295) × Reads Config × Reads Unreadable
+reads : Reads (Some (Init 65535)) × Reads (Some Alive) × Reads (Some (Abort 4294967295)) × Reads (Some (Extended 4294967295))
+    × Reads (Some Config) × Reads None
 reads = (omega arith, tt, omega arith, omega arith, tt, tt)
 
-not-reads : (Reads (Init 65536) → ⊥) × (Reads (Abort 4294967296) → ⊥) × (Reads (Extended 4294967296) → ⊥)
+not-reads : (Reads (Some (Init 65536)) → ⊥) × (Reads (Some (Abort 4294967296)) → ⊥) × (Reads (Some (Extended 4294967296)) → ⊥)
 not-reads = ((λ h. omega (arith, h)), (λ h. omega (arith, h)), (λ h. omega (arith, h)))
 
-far-number : Reads (Splice (record {
+far-number : Reads (Some (Splice (record {
   id = 4294967296;
   start = Linked 0;
   duration = record { 0 = 0 };
@@ -168,5 +169,5 @@ far-number : Reads (Splice (record {
   access = 0;
   overrides = 0;
   mux = 5;
-})) → ⊥
+}))) → ⊥
 far-number h = omega (arith, h.id)

@@ -1,12 +1,10 @@
 -- The requests that the demands' statements speak of (demands' Told), from their bytes: which asks for a splice, which inquires what has
 -- ended, and which does not; what an answer finds among what is kept. Worked by hand from 01 and 02. Assumes nothing.
-use Rattle.std.specs.Prelude.{◌≡◌, refl, false, true, List, [], ◌∷◌, ◌++◌, ℕ, zero, suc, ◌<◌, replicate, get_or}
+use Rattle.std.specs.Prelude.{◌≡◌, refl, false, true, List, [], ◌∷◌, ◌++◌, ℕ, zero, suc, ◌<◌, replicate, get_or, Err, Ok, Result}
 use Rattle.std.proofs.Common.{ap, arith, lit<}
-use Rattle.rules.specs.declared.Framing.{Framing}
-use Rattle.rules.specs.declared.Framing.TheVariants.{Framed, Unframed}
 use Rattle.rules.specs.declared.Link.TheVariants.{Closed, Opened, Initialised}
 use Rattle.rules.specs.declared.Message.{Message}
-use Rattle.rules.specs.declared.Message.TheVariants.{Init, Alive, Splice, Abort, Config, Extended, Unreadable}
+use Rattle.rules.specs.declared.Message.TheVariants.{Init, Alive, Splice, Abort, Config, Extended}
 use Rattle.rules.specs.declared.Past.{Past}
 use Rattle.rules.specs.declared.Request.{Request}
 use Rattle.rules.specs.declared.Start.{Start}
@@ -22,6 +20,9 @@ use Rattle.demands.specs.Told.{Asks, Inquires, Finds}
 use Rattle.cases.specs.Scenario.{hex}
 use Rattle.cases.specs.Computing.{computing}
 use Rattle.cases.specs.Heard.{each, small, unlike, unordered, not-true, not-false}
+use Rattle.rules.specs.declared.Header.{Header}
+use Rattle.rules.specs.declared.Refusal.{Refusal}
+use Rattle.std.specs.Prelude.{None, Option, Some}
 
 -- connection 0 is initialised, 1 open, 2 and 3 closed
 now : Splicer
@@ -46,9 +47,9 @@ long : List ℕ
 long = replicate 1025 0x47
 
 -- a message's MessageID, 1 more; 0 where it is none
-id_of : Framing → ℕ
-id_of (Framed id size) = suc id
-id_of (Unframed n) = 0
+id_of : Result Header Refusal → ℕ
+id_of (Ok h) = suc h.id
+id_of (Err n) = 0
 
 -- ## Splice_Requests
 
@@ -87,14 +88,14 @@ asks-linked =
     }
 
 -- the SpliceEventID that was read, 1 more; 0 where no request was
-event_of : Message → ℕ
-event_of (Init revision) = 0
-event_of Alive = 0
-event_of (Splice r) = suc r.event
-event_of (Abort x) = 0
-event_of Config = 0
-event_of (Extended x) = 0
-event_of Unreadable = 0
+event_of : Option Message → ℕ
+event_of (Some (Init revision)) = 0
+event_of (Some Alive) = 0
+event_of (Some (Splice r)) = suc r.event
+event_of (Some (Abort x)) = 0
+event_of (Some Config) = 0
+event_of (Some (Extended x)) = 0
+event_of None = 0
 
 -- Duration 0: not readable; the bytes of an Alive_Request; cut
 bad : List ℕ
@@ -141,14 +142,14 @@ inquires =
     record { wired = (small inquiry tt, tt, tt); low = refl; roomy = refl; short = refl; ready = refl; framed = refl; readable = refl }
 
 -- the SessionID that was read, 1 more
-sought_in : Message → ℕ
-sought_in (Init revision) = 0
-sought_in Alive = 0
-sought_in (Splice r) = 0
-sought_in (Abort x) = 0
-sought_in Config = 0
-sought_in (Extended x) = suc x
-sought_in Unreadable = 0
+sought_in : Option Message → ℕ
+sought_in (Some (Init revision)) = 0
+sought_in (Some Alive) = 0
+sought_in (Some (Splice r)) = 0
+sought_in (Some (Abort x)) = 0
+sought_in (Some Config) = 0
+sought_in (Some (Extended x)) = suc x
+sought_in None = 0
 
 inquires-not : (Inquires 4 inquiry lent 7 now → ⊥) × (Inquires 0 inquiry (lending 4095) 7 now → ⊥)
     × (Inquires 0 inquiry (lending_maps long [] 4096) 7 now → ⊥) × (Inquires 0 inquiry (lending_maps [] long 4096) 7 now → ⊥)

@@ -4,13 +4,9 @@ use Rattle.std.specs.Prelude.{◌≡◌, refl, true, false, List, [], ◌∷◌,
 use Prim.Native.String.{String}
 use Rattle.rules.specs.declared.Start.{Start}
 use Rattle.rules.specs.declared.Start.TheVariants.{Timed, Linked}
-use Rattle.rules.specs.declared.Priority.{Priority}
-use Rattle.rules.specs.declared.Priority.TheVariants.{Is, Bad}
 use Rattle.rules.specs.declared.Message.{Message}
-use Rattle.rules.specs.declared.Message.TheVariants.{Init, Alive, Splice, Abort, Config, Extended, Unreadable}
+use Rattle.rules.specs.declared.Message.TheVariants.{Init, Alive, Splice, Abort, Config, Extended}
 use Rattle.rules.specs.declared.Refusal.TheVariants.{Oversize, Short}
-use Rattle.rules.specs.declared.Framing.{Framing}
-use Rattle.rules.specs.declared.Framing.TheVariants.{Framed, Unframed}
 use Rattle.rules.specs.Bytes.{name_in, same_name, written}
 use Rattle.rules.specs.Hardware.{length_in}
 use Rattle.rules.specs.Descriptors.{mux_of}
@@ -21,41 +17,45 @@ use Rattle.rules.specs.Streams.{Listed, listed, unlisted, separate_in}
 use Rattle.rules.specs.Calls.{framing}
 use Rattle.cases.specs.Scenario.{hex}
 use Rattle.cases.specs.Computing.{computing}
+use Rattle.std.specs.Prelude.{Err, None, Ok, Option, Result, Some}
+use Rattle.rules.specs.declared.Header.{Header}
+use Rattle.rules.specs.declared.Refusal.{Refusal}
+use Rattle.rules.specs.Calls.{headed}
 
 -- ## House numbers 4 and 5: "MessageSize above 4,088"; "5 (header), 4, 5 (body)"
 
-record Header : Type 0 where
+record Heading : Type 0 where
   bytes : String
-  wants : Framing
+  wants : Result Header Refusal
 
-header : String → Framing → Header
-header l f = record { bytes = l; wants = f }
+heading : String → Result Header Refusal → Heading
+heading l f = record { bytes = l; wants = f }
 
 -- for MessageSize without its highest bit, in its low 12 bits, and compared in the low 7 or 8; and for MessageID so
-headers : List Header
-headers =
-    header "0005 0000 FFFF FFFF" (Framed 5 0)
-    ∷ header "0105 0000 FFFF FFFF" (Framed 0x0105 0)
-    ∷ header "1005 0000 FFFF FFFF" (Framed 0x1005 0)
-    ∷ header "8005 0000 FFFF FFFF" (Framed 0x8005 0)
-    ∷ header "0005 0001 FFFF FFFF" (Unframed Short)
-    ∷ header "0005 0079 FFFF FFFF" (Unframed Short)
-    ∷ header "0005 007F FFFF FFFF" (Unframed Short)
-    ∷ header "0005 0080 FFFF FFFF" (Unframed Short)
-    ∷ header "0005 00F9 FFFF FFFF" (Unframed Short)
-    ∷ header "0005 00FF FFFF FFFF" (Unframed Short)
-    ∷ header "0005 0100 FFFF FFFF" (Unframed Short)
-    ∷ header "0005 0FF8 FFFF FFFF" (Unframed Short)
-    ∷ header "0005 0FF9 FFFF FFFF" (Unframed Oversize)
-    ∷ header "0005 1000 FFFF FFFF" (Unframed Oversize)
-    ∷ header "0005 2000 FFFF FFFF" (Unframed Oversize)
-    ∷ header "0005 8000 FFFF FFFF" (Unframed Oversize)
-    ∷ header "0005 8008 FFFF FFFF" (Unframed Oversize)
-    ∷ header "0005 FF00 FFFF FFFF" (Unframed Oversize)
+headings : List Heading
+headings =
+    heading "0005 0000 FFFF FFFF" (Ok (headed 5 0))
+    ∷ heading "0105 0000 FFFF FFFF" (Ok (headed 0x0105 0))
+    ∷ heading "1005 0000 FFFF FFFF" (Ok (headed 0x1005 0))
+    ∷ heading "8005 0000 FFFF FFFF" (Ok (headed 0x8005 0))
+    ∷ heading "0005 0001 FFFF FFFF" (Err Short)
+    ∷ heading "0005 0079 FFFF FFFF" (Err Short)
+    ∷ heading "0005 007F FFFF FFFF" (Err Short)
+    ∷ heading "0005 0080 FFFF FFFF" (Err Short)
+    ∷ heading "0005 00F9 FFFF FFFF" (Err Short)
+    ∷ heading "0005 00FF FFFF FFFF" (Err Short)
+    ∷ heading "0005 0100 FFFF FFFF" (Err Short)
+    ∷ heading "0005 0FF8 FFFF FFFF" (Err Short)
+    ∷ heading "0005 0FF9 FFFF FFFF" (Err Oversize)
+    ∷ heading "0005 1000 FFFF FFFF" (Err Oversize)
+    ∷ heading "0005 2000 FFFF FFFF" (Err Oversize)
+    ∷ heading "0005 8000 FFFF FFFF" (Err Oversize)
+    ∷ heading "0005 8008 FFFF FFFF" (Err Oversize)
+    ∷ heading "0005 FF00 FFFF FFFF" (Err Oversize)
     ∷ []
 
-framed : map (λ h. framing (hex h.bytes)) headers ≡ map (λ h. h.wants) headers
-unfolding computing header headers
+framed : map (λ h. framing (hex h.bytes)) headings ≡ map (λ h. h.wants) headings
+unfolding computing heading headings
 framed = refl
 
 -- ## "A string ends at its first zero byte": 0x80 is none
@@ -85,29 +85,29 @@ init r l n = hex r then (name then (name then (hex l then replicate n 0x55)))
 
 record Asks : Type 0 where
   data' : List ℕ
-  wants : Message
+  wants : Option Message
 
-asks : List ℕ → Message → Asks
+asks : List ℕ → Option Message → Asks
 asks d m = record { data' = d; wants = m }
 
 inits : List Asks
 inits =
-    asks (init "0002" "0000" 0) (Init 2)
-    ∷ asks (init "0102" "0000" 0) (Init 0x0102)
-    ∷ asks (init "1002" "0000" 0) (Init 0x1002)
-    ∷ asks (init "8002" "0000" 0) (Init 0x8002)
+    asks (init "0002" "0000" 0) (Some (Init 2))
+    ∷ asks (init "0102" "0000" 0) (Some (Init 0x0102))
+    ∷ asks (init "1002" "0000" 0) (Some (Init 0x1002))
+    ∷ asks (init "8002" "0000" 0) (Some (Init 0x8002))
     -- Lengths of which some bits say 0
-    ∷ asks (init "0002" "0100" 0) Unreadable
-    ∷ asks (init "0002" "1000" 0) Unreadable
-    ∷ asks (init "0002" "8000" 0) Unreadable
+    ∷ asks (init "0002" "0100" 0) None
+    ∷ asks (init "0002" "1000" 0) None
+    ∷ asks (init "0002" "8000" 0) None
     -- 127 bytes of 130, 255 of 257; 129 in 127, 257 in 255
-    ∷ asks (init "0002" "003B" 62) (Init 2)
-    ∷ asks (init "0002" "00BB" 189) (Init 2)
-    ∷ asks (init "0002" "003D" 59) Unreadable
-    ∷ asks (init "0002" "00BD" 187) Unreadable
+    ∷ asks (init "0002" "003B" 62) (Some (Init 2))
+    ∷ asks (init "0002" "00BB" 189) (Some (Init 2))
+    ∷ asks (init "0002" "003D" 59) None
+    ∷ asks (init "0002" "00BD" 187) None
     -- 256 with its Length, and 257
-    ∷ asks (init "0002" "00FE" 254) (Init 2)
-    ∷ asks (init "0002" "00FF" 255) Unreadable
+    ∷ asks (init "0002" "00FE" 254) (Some (Init 2))
+    ∷ asks (init "0002" "00FF" 255) None
     ∷ []
 
 inits-read : map (λ a. read_init a.data') inits ≡ map (λ a. a.wants) inits
@@ -121,28 +121,29 @@ lengths = refl
 -- ## "Not readable": a size that is not the kind's, in its low bits too
 
 alives : map (λ n. read_alive (replicate n 0)) (0 ∷ 7 ∷ 8 ∷ 9 ∷ 136 ∷ 264 ∷ [])
-    ≡ Unreadable ∷ Unreadable ∷ Alive ∷ Unreadable ∷ Unreadable ∷ Unreadable ∷ []
+    ≡ None ∷ None ∷ (Some Alive) ∷ None ∷ None ∷ None ∷ []
 unfolding computing
 alives = refl
 
 aborts : map (λ n. read_abort (replicate n 0)) (3 ∷ 4 ∷ 5 ∷ 132 ∷ 260 ∷ [])
-    ≡ Unreadable ∷ Abort 0 ∷ Unreadable ∷ Unreadable ∷ Unreadable ∷ []
+    ≡ None ∷ Some (Abort 0) ∷ None ∷ None ∷ None ∷ []
 unfolding computing
 aborts = refl
 
 -- "GetConfig_Request (0x000A, no data)"
-configs : map (λ n. read_config (replicate n 0)) (0 ∷ 1 ∷ 128 ∷ 256 ∷ []) ≡ Config ∷ Unreadable ∷ Unreadable ∷ Unreadable ∷ []
+configs : map (λ n. read_config (replicate n 0)) (0 ∷ 1 ∷ 128 ∷ 256 ∷ []) ≡ Some Config ∷ None ∷ None ∷ None ∷ []
 unfolding computing
 configs = refl
 
 -- SessionIDs to their highest bit; "the default type, 0xFFFFFFFF", all of it
-numbers : read_abort (hex "80000001") ∷ read_extended (hex "80000001 FFFFFFFF") ∷ [] ≡ Abort 0x80000001 ∷ Extended 0x80000001 ∷ []
+numbers : read_abort (hex "80000001") ∷ read_extended (hex "80000001 FFFFFFFF") ∷ [] ≡ Some (Abort 0x80000001)
+    ∷ Some (Extended 0x80000001) ∷ []
 unfolding computing
 numbers = refl
 
 extended : map read_extended
     (hex "00000001 7FFFFFFF" ∷ hex "00000001 FFFFFF7F" ∷ hex "00000001 000000FF" ∷ (hex "00000001 FFFFFFFF" then replicate 128 0)
-    ∷ (hex "00000001 FFFFFFFF" then replicate 256 0) ∷ []) ≡ Unreadable ∷ Unreadable ∷ Unreadable ∷ Unreadable ∷ Unreadable ∷ []
+    ∷ (hex "00000001 FFFFFFFF" then replicate 256 0) ∷ []) ≡ None ∷ None ∷ None ∷ None ∷ None ∷ []
 unfolding computing
 extended = refl
 
@@ -150,9 +151,9 @@ extended = refl
 
 record Loop : Type 0 where
   bytes : List ℕ
-  wants : Priority
+  wants : Option ℕ
 
-loop : List ℕ → Priority → Loop
+loop : List ℕ → Option ℕ → Loop
 loop l p = record { bytes = l; wants = p }
 
 -- tag and length, and so many bytes behind them
@@ -162,26 +163,26 @@ far l n = hex l then replicate n 0x41
 loops : List Loop
 loops =
     -- lengths whose low bits say less than 4
-    loop (far "017F" 127) (Is 5)
-    ∷ loop (far "0180" 128) (Is 5)
-    ∷ loop (far "0183" 131) (Is 5)
-    ∷ loop (far "01FE" 254) (Is 5)
-    ∷ loop (far "01FF" 255) Bad
+    loop (far "017F" 127) (Some 5)
+    ∷ loop (far "0180" 128) (Some 5)
+    ∷ loop (far "0183" 131) (Some 5)
+    ∷ loop (far "01FE" 254) (Some 5)
+    ∷ loop (far "01FF" 255) None
     -- one of 127 or 255 bytes with one of six behind it; ones of 129 and 256 bytes, of which 100 are there
-    ∷ loop (far "017D" 125 then far "0104" 4) (Is 5)
-    ∷ loop (far "01FD" 253 then far "0104" 4) (Is 5)
-    ∷ loop (far "017F" 98) Bad
-    ∷ loop (far "01FE" 98) Bad
+    ∷ loop (far "017D" 125 then far "0104" 4) (Some 5)
+    ∷ loop (far "01FD" 253 then far "0104" 4) (Some 5)
+    ∷ loop (far "017F" 98) None
+    ∷ loop (far "01FE" 98) None
     -- "tag 0x02 under SAPI": not 0x82, not another highest bit of the identifier; a value to its highest bit
-    ∷ loop (hex "8205 53415049 0B") (Is 5)
-    ∷ loop (hex "0205 D3415049 0B") (Is 5)
-    ∷ loop (hex "0205 534150C9 0B") (Is 5)
-    ∷ loop (hex "0205 53415049 07") (Is 7)
-    ∷ loop (hex "0205 53415049 81") Bad
-    ∷ loop (hex "0205 53415049 8A") Bad
+    ∷ loop (hex "8205 53415049 0B") (Some 5)
+    ∷ loop (hex "0205 D3415049 0B") (Some 5)
+    ∷ loop (hex "0205 534150C9 0B") (Some 5)
+    ∷ loop (hex "0205 53415049 07") (Some 7)
+    ∷ loop (hex "0205 53415049 81") None
+    ∷ loop (hex "0205 53415049 8A") None
     -- "the length must be 5": what stands behind a shorter one is no value
-    ∷ loop (hex "0204 53415049 0504 41424344") Bad
-    ∷ loop (hex "0206 53415049 0505") Bad
+    ∷ loop (hex "0204 53415049 0504 41424344") None
+    ∷ loop (hex "0206 53415049 0505") None
     ∷ []
 
 loops-read : map (λ x. mux_of x.bytes) loops ≡ map (λ x. x.wants) loops
@@ -275,9 +276,9 @@ splice : (head service tail : String) → (descriptors : List ℕ) → List ℕ
 splice h s t l = hex h then (hex s then (hex t then l))
 
 -- what is read of one whose SpliceEventID is 0x80000002, whose AccessType is 3 and whose flags are 1 and 0
-reads : ℕ → Start → (duration : ℕ) → Message
+reads : ℕ → Start → (duration : ℕ) → Option Message
 reads x t n =
-    Splice (record { id = x; start = t; duration = record { 0 = n }; event = 0x80000002; access = 3; overrides = 1; mux = 5 })
+    Some (Splice (record { id = x; start = t; duration = record { 0 = n }; event = 0x80000002; access = 3; overrides = 1; mux = 5 }))
 
 splices : List Asks
 splices =
@@ -303,16 +304,16 @@ splices =
     -- "MicroSeconds": 999,999 at most, of a timed one
     ∷ asks (splice "00000001 FFFFFFFF 00000001 000F423F" "0001" "00000001 80000002 00000000 03 01 00" [])
     (reads 1 (Timed (record { 0 = 1999999 })) 1)
-    ∷ asks (splice "00000001 FFFFFFFF 00000001 000F4240" "0001" "00000001 80000002 00000000 03 01 00" []) Unreadable
-    ∷ asks (splice "00000001 FFFFFFFF 00000001 80000000" "0001" "00000001 80000002 00000000 03 01 00" []) Unreadable
+    ∷ asks (splice "00000001 FFFFFFFF 00000001 000F4240" "0001" "00000001 80000002 00000000 03 01 00" []) None
+    ∷ asks (splice "00000001 FFFFFFFF 00000001 80000000" "0001" "00000001 80000002 00000000 03 01 00" []) None
     -- AccessType 9 at most, flags 0 or 1: to their highest bits
-    ∷ asks (splice "00000001 00000004 00000000 00000000" "0001" "00000001 80000002 00000000 0A 01 00" []) Unreadable
-    ∷ asks (splice "00000001 00000004 00000000 00000000" "0001" "00000001 80000002 00000000 80 01 00" []) Unreadable
-    ∷ asks (splice "00000001 00000004 00000000 00000000" "0001" "00000001 80000002 00000000 03 80 00" []) Unreadable
-    ∷ asks (splice "00000001 00000004 00000000 00000000" "0001" "00000001 80000002 00000000 03 81 00" []) Unreadable
-    ∷ asks (splice "00000001 00000004 00000000 00000000" "0001" "00000001 80000002 00000000 03 01 80" []) Unreadable
-    ∷ asks (splice "00000001 00000004 00000000 00000000" "0001" "00000001 80000002 00000000 03 01 81" []) Unreadable
-    ∷ asks (splice "00000001 00000004 00000000 00000000" "0001" "00000000 80000002 00000000 03 01 00" []) Unreadable
+    ∷ asks (splice "00000001 00000004 00000000 00000000" "0001" "00000001 80000002 00000000 0A 01 00" []) None
+    ∷ asks (splice "00000001 00000004 00000000 00000000" "0001" "00000001 80000002 00000000 80 01 00" []) None
+    ∷ asks (splice "00000001 00000004 00000000 00000000" "0001" "00000001 80000002 00000000 03 80 00" []) None
+    ∷ asks (splice "00000001 00000004 00000000 00000000" "0001" "00000001 80000002 00000000 03 81 00" []) None
+    ∷ asks (splice "00000001 00000004 00000000 00000000" "0001" "00000001 80000002 00000000 03 01 80" []) None
+    ∷ asks (splice "00000001 00000004 00000000 00000000" "0001" "00000001 80000002 00000000 03 01 81" []) None
+    ∷ asks (splice "00000001 00000004 00000000 00000000" "0001" "00000000 80000002 00000000 03 01 00" []) None
     ∷ []
 
 splices-read : map (λ a. read_splice a.data') splices ≡ map (λ a. a.wants) splices
@@ -342,13 +343,13 @@ not-theirs :
     then (map (λ n. read n (hex "00000001 FFFFFFFF")) (0x83 ∷ 0x103 ∷ [])
     then (map (λ n. read n []) (0x8A ∷ 0x10A ∷ [])
     then map (λ n. read n (splice "00000001 00000004 00000000 00000000" "0001" "00000001 00000002 00000000 03 01 00" []))
-    (0x87 ∷ 0x107 ∷ []))))) ≡ replicate 12 Unreadable
+    (0x87 ∷ 0x107 ∷ []))))) ≡ replicate 12 None
 unfolding computing name init splice
 not-theirs = refl
 
 -- nor lower ones
 not_lower : read 0 (init "0002" "0000" 0) ∷ read 2 (hex "00000001 FFFFFFFF") ∷ map (λ n. read n []) (4 ∷ 6 ∷ 8 ∷ 9 ∷ [])
-    ≡ replicate 6 Unreadable
+    ≡ replicate 6 None
 unfolding computing name init
 not_lower = refl
 

@@ -12,7 +12,6 @@ use Rattle.rules.specs.declared.Request.{Request}
 use Rattle.rules.specs.declared.Link.{Link}
 use Rattle.rules.specs.declared.Link.TheVariants.{Closed, Opened, Initialised}
 use Rattle.rules.specs.declared.Message.TheVariants.{Splice, Extended}
-use Rattle.rules.specs.declared.Framing.TheVariants.{Framed}
 use Rattle.rules.specs.Lists.{All, bit, omit}
 use Rattle.rules.specs.Bytes.{message_id, message_size}
 use Rattle.rules.specs.Reading.{splice_request, extended_request, config_request, alive_request, read_extended}
@@ -34,6 +33,8 @@ use Rattle.demands.specs.Kept.{AsksConfig, AsksAlive, Ready}
 use Rattle.demands.proofs.Refusals.{first-number}
 use Rattle.demands.proofs.Room.{from-sound}
 use Rattle.demands.proofs.Kept.{denied-call}
+use Rattle.std.specs.Prelude.{Ok, Some}
+use Rattle.rules.specs.Calls.{headed}
 
 -- ## A good message call
 
@@ -54,7 +55,7 @@ record Good (c : ℕ) (l : List ℕ) (loans : Loans) (s : Splicer) : Type 0 wher
   roomy : no_room loans.room ≡ false
   opened : not_open c s ≡ false
   sections : long_section loans ≡ false
-  framed : framing l ≡ Framed (message_id l) (message_size l)
+  framed : framing l ≡ Ok (headed (message_id l) (message_size l))
 
 -- the bytes are bytes, and the answer is no refusal
 module _ (c : ℕ) (l : List ℕ) (loans : Loans) (s : Splicer) (w : Wired (messages c l loans))
@@ -68,14 +69,15 @@ module _ (c : ℕ) (l : List ℕ) (loans : Loans) (s : Splicer) (w : Wired (mess
       let k = n.1.1.1.1 in
       record { low = n.0; roomy = n.1.0; opened = n.1.1.0; sections = n.1.1.1.0; framed = rw (k.0, k.1.0, k.1.1.0) }
 
-  framed-as : (x : ℕ) → message_id l ≡ x → framing l ≡ Framed x (message_size l)
-  framed-as x e = good.framed ∙ ap (λ n. Framed n (message_size l)) e
+  framed-as : (x : ℕ) → message_id l ≡ x → framing l ≡ Ok (headed x (message_size l))
+  framed-as x e = good.framed ∙ ap (λ n. Ok (headed n (message_size l))) e
 
-  sized-as : (x n : ℕ) → message_id l ≡ x → message_size l ≡ n → framing l ≡ Framed x n
-  sized-as x n e f = framed-as x e ∙ ap (Framed x) f
+  sized-as : (x n : ℕ) → message_id l ≡ x → message_size l ≡ n → framing l ≡ Ok (headed x n)
+  sized-as x n e f = framed-as x e ∙ ap (λ (m : ℕ). Ok (headed x m)) f
 
   -- a Splice_Request of an initialised connection that is read
-  pub good-asks : (r : Request) → message_id l ≡ splice_request → is_initialised (link_of c s) ≡ true → read_splice (data_in l) ≡ Splice r
+  pub good-asks : (r : Request) → message_id l ≡ splice_request → is_initialised (link_of c s) ≡ true → read_splice (data_in l)
+      ≡ Some (Splice r)
       → Asks c l loans r s
   good-asks r e i f =
       let g = good in
@@ -91,7 +93,7 @@ module _ (c : ℕ) (l : List ℕ) (loans : Loans) (s : Splicer) (w : Wired (mess
 
   -- 02, CR 8: an ExtendedData_Request
   pub good-inquires : (x : ℕ) → message_id l ≡ extended_request → is_initialised (link_of c s) ≡ true
-      → read_extended (data_in l) ≡ Extended x
+      → read_extended (data_in l) ≡ Some (Extended x)
       → Inquires c l loans x s
   good-inquires x e i f =
       let g = good in

@@ -8,8 +8,6 @@ use native.Mathlib.Omega.{arith}
 use lib.Dec.{ltb}
 use borrow.Author.Tests.{ltb-true, ltb-false, le-ltb}
 use Rattle.rules.specs.declared.Ninths.{Ninths}
-use Rattle.rules.specs.declared.When.{When}
-use Rattle.rules.specs.declared.When.TheVariants.{At, Never}
 use Rattle.rules.specs.declared.Session.{Session}
 use Rattle.rules.specs.Units.{time_of, bad_micros, from_micros}
 use Rattle.rules.specs.Records.{Record, output}
@@ -23,6 +21,7 @@ use Rattle.rules.proofs.Tick.{not_after-at, due-time, due-none, moved, moved-les
 use Rattle.rules.proofs.Silence.{silent_all-stop, silent_all-more}
 use Rattle.rules.proofs.Written.{output-append}
 use Rattle.demands.specs.Told.{number_of}
+use Rattle.std.specs.Prelude.{None, Option, Some}
 
 -- ## Two stretches of time
 
@@ -45,7 +44,7 @@ ends-on_air d (s ∷ k) = refl
 
 still-due : (d : ℕ) (q : Queue) → due (elapse d q) ≡ due q
 unfolding due elapse
-still-due d q = ap (λ (w : When). sooner w (earliest (λ s. s.start) q.waiting)) (ends-on_air d q.started)
+still-due d q = ap (λ (w : Option Ninths). sooner w (earliest (λ s. s.start) q.waiting)) (ends-on_air d q.started)
 
 silence-twice : (a b d : ℕ) (k : List Session) → silence b k + silence a (on_air d k) ≡ silence (b + a) k
 unfolding on_air
@@ -70,10 +69,10 @@ unfolding and_then
 then-quiet q f = refl
 
 module _ (now until : ℕ) (q : Queue) where
-  run_all-stop : not_after until (due q) ≡ Never → run_all now until q ≡ quiet (elapse (until - now) q)
+  run_all-stop : not_after until (due q) ≡ None → run_all now until q ≡ quiet (elapse (until - now) q)
   run_all-stop e = run_all-enough (to_come q) now until q (omega arith) ∙ run-stop (to_come q) now until q e
 
-  run_all-more : (t : Ninths) → not_after until (due q) ≡ At t → run_all now until q ≡ and_then (moved now t.0 q) (run_all t.0 until)
+  run_all-more : (t : Ninths) → not_after until (due q) ≡ Some t → run_all now until q ≡ and_then (moved now t.0 q) (run_all t.0 until)
   run_all-more t e =
       let n = to_come q in
       let u = (moved now t.0 q).queue in
@@ -83,25 +82,25 @@ module _ (now until : ℕ) (q : Queue) where
 
 -- ## To mid, and from there to until
 
-never-at : (t : Ninths) → Never ≡ At t → ⊥
+never-at : (t : Ninths) → None ≡ Some t → ⊥
 never-at t h = let z : ◌≡◌ {A = ℕ} 0 1 = cc in omega arith
 
 module _ (mid until : ℕ) (le : mid ≤ until) where
   -- what is due by mid is due by until
-  sooner-due : (a : When) (t : Ninths) → not_after mid a ≡ At t → not_after until a ≡ At t
-  sooner-due Never t e = absurd (never-at t e)
-  sooner-due (At u) t e = go (ltb mid u.0) refl e
+  sooner-due : (a : Option Ninths) (t : Ninths) → not_after mid a ≡ Some t → not_after until a ≡ Some t
+  sooner-due None t e = absurd (never-at t e)
+  sooner-due (Some u) t e = go (ltb mid u.0) refl e
     where
-      go : (b : Bool) → ltb mid u.0 ≡ b → cond b Never (At u) ≡ At t → not_after until (At u) ≡ At t
+      go : (b : Bool) → ltb mid u.0 ≡ b → cond b None (Some u) ≡ Some t → not_after until (Some u) ≡ Some t
       go true h f = absurd (never-at t f)
       go false h f = not_after-at until u (omega (arith, ltb-false mid u.0 h)) ∙ f
 
   -- what is not due by mid is due after it
-  later-due : (a : When) (t : Ninths) → not_after mid a ≡ Never → not_after until a ≡ At t → mid ≤ t.0
-  later-due Never t e f = absurd (never-at t f)
-  later-due (At u) t e f = go (ltb mid u.0) refl e (ltb until u.0) refl f
+  later-due : (a : Option Ninths) (t : Ninths) → not_after mid a ≡ None → not_after until a ≡ Some t → mid ≤ t.0
+  later-due None t e f = absurd (never-at t f)
+  later-due (Some u) t e f = go (ltb mid u.0) refl e (ltb until u.0) refl f
     where
-      go : (b : Bool) → ltb mid u.0 ≡ b → cond b Never (At u) ≡ Never → (c : Bool) → ltb until u.0 ≡ c → cond c Never (At u) ≡ At t
+      go : (b : Bool) → ltb mid u.0 ≡ b → cond b None (Some u) ≡ None → (c : Bool) → ltb until u.0 ≡ c → cond c None (Some u) ≡ Some t
           → mid ≤ t.0
       go true h e true k f = absurd (never-at t f)
       go true h e false k f = let i : u.0 ≡ t.0 = cc in omega (arith, ltb-true mid u.0 h)
@@ -127,39 +126,40 @@ module _ (mid until : ℕ) (le : mid ≤ until) where
     still : not_after until (due u) ≡ not_after until (due q)
     still = ap (not_after until) (still-due (mid - now) q)
 
-    run-later : not_after mid (due q) ≡ Never → run_all mid until u ≡ run_all now until q
+    run-later : not_after mid (due q) ≡ None → run_all mid until u ≡ run_all now until q
     run-later e = go (not_after until (due q)) refl
       where
-        go : (a : When) → not_after until (due q) ≡ a → run_all mid until u ≡ run_all now until q
-        go (At t) f =
+        go : (a : Option Ninths) → not_after until (due q) ≡ a → run_all mid until u ≡ run_all now until q
+        go (Some t) f =
             run_all-more mid until u t (still ∙ f)
             ∙ ap (λ (x : Queue). and_then (instant t.0 x) (run_all t.0 until)) (onward t.0 (later-due (due q) t e f))
             ∙ sym (run_all-more now until q t f)
-        go Never f = run_all-stop mid until u (still ∙ f) ∙ ap quiet (onward until le) ∙ sym (run_all-stop now until q f)
+        go None f = run_all-stop mid until u (still ∙ f) ∙ ap quiet (onward until le) ∙ sym (run_all-stop now until q f)
 
-    silent-later : not_after mid (due q) ≡ Never → silence (mid - now) q.started + silent_all mid until u ≡ silent_all now until q
+    silent-later : not_after mid (due q) ≡ None → silence (mid - now) q.started + silent_all mid until u ≡ silent_all now until q
     silent-later e = go (not_after until (due q)) refl
       where
-        go : (a : When) → not_after until (due q) ≡ a → silence (mid - now) q.started + silent_all mid until u ≡ silent_all now until q
-        go (At t) f =
+        go : (a : Option Ninths) → not_after until (due q) ≡ a → silence (mid - now) q.started + silent_all mid until u
+            ≡ silent_all now until q
+        go (Some t) f =
             let i = later-due (due q) t e f in
             let x = silent_all-more mid until u t (still ∙ f) in
             let y = silent_all-more now until q t f in
             let z = ap (λ (v : Queue). silent_all t.0 until (instant t.0 v).queue) (onward t.0 i) in
             omega (arith, x, y, z, silence-onward t.0 i)
-        go Never f =
+        go None f =
             let x = silent_all-stop mid until u (still ∙ f) in
             let y = silent_all-stop now until q f in
             omega (arith, x, y, silence-onward until le)
 
   -- with nothing due by mid
-  run_none : (now : ℕ) (q : Queue) → now ≤ mid → not_after mid (due q) ≡ Never
+  run_none : (now : ℕ) (q : Queue) → now ≤ mid → not_after mid (due q) ≡ None
       → and_then (run_all now mid q) (run_all mid until) ≡ run_all now until q
   run_none now q h e =
       ap (λ (t : Turn). and_then t (run_all mid until)) (run_all-stop now mid q e)
       ∙ then-quiet (elapse (mid - now) q) (run_all mid until) ∙ run-later now q h e
 
-  silent-none : (now : ℕ) (q : Queue) → now ≤ mid → not_after mid (due q) ≡ Never
+  silent-none : (now : ℕ) (q : Queue) → now ≤ mid → not_after mid (due q) ≡ None
       → silent_all now mid q + silent_all mid until (run_all now mid q).queue ≡ silent_all now until q
   silent-none now q h e =
       let x = silent_all-stop now mid q e in
@@ -168,15 +168,15 @@ module _ (mid until : ℕ) (le : mid ≤ until) where
 
   -- n: no fewer than the starts and ends to come
   run-two : (n now : ℕ) (q : Queue) → to_come q ≤ n → now ≤ mid → and_then (run_all now mid q) (run_all mid until) ≡ run_all now until q
-  run-two zero now q few h = let e : not_after mid (due q) ≡ Never = rw (due-none q few) in run_none now q h e
+  run-two zero now q few h = let e : not_after mid (due q) ≡ None = rw (due-none q few) in run_none now q h e
   run-two (suc n) now q few h = go (not_after mid (due q)) refl (λ t. run-two n t (moved now t q).queue)
     where
-      go : (a : When) → not_after mid (due q) ≡ a
+      go : (a : Option Ninths) → not_after mid (due q) ≡ a
           → ((t : ℕ) → to_come (moved now t q).queue ≤ n → t ≤ mid
           → and_then (run_all t mid (moved now t q).queue) (run_all mid until) ≡ run_all t until (moved now t q).queue)
           → and_then (run_all now mid q) (run_all mid until) ≡ run_all now until q
-      go Never e ih = run_none now q h e
-      go (At t) e ih =
+      go None e ih = run_none now q h e
+      go (Some t) e ih =
           let x = moved now t.0 q in
           let l = moved-less now mid t q e in
           ap (λ (r : Turn). and_then r (run_all mid until)) (run_all-more now mid q t e)
@@ -188,16 +188,16 @@ module _ (mid until : ℕ) (le : mid ≤ until) where
   silent-two : (n now : ℕ) (q : Queue) → to_come q ≤ n → now ≤ mid
       → silent_all now mid q + silent_all mid until (run_all now mid q).queue ≡ silent_all now until q
   unfolding and_then
-  silent-two zero now q few h = let e : not_after mid (due q) ≡ Never = rw (due-none q few) in silent-none now q h e
+  silent-two zero now q few h = let e : not_after mid (due q) ≡ None = rw (due-none q few) in silent-none now q h e
   silent-two (suc n) now q few h = go (not_after mid (due q)) refl (λ t. silent-two n t (moved now t q).queue)
     where
-      go : (a : When) → not_after mid (due q) ≡ a
+      go : (a : Option Ninths) → not_after mid (due q) ≡ a
           → ((t : ℕ) → to_come (moved now t q).queue ≤ n → t ≤ mid
           → silent_all t mid (moved now t q).queue + silent_all mid until (run_all t mid (moved now t q).queue).queue
           ≡ silent_all t until (moved now t q).queue)
           → silent_all now mid q + silent_all mid until (run_all now mid q).queue ≡ silent_all now until q
-      go Never e ih = silent-none now q h e
-      go (At t) e ih =
+      go None e ih = silent-none now q h e
+      go (Some t) e ih =
           let l = moved-less now mid t q e in
           let x = silent_all-more now mid q t e in
           let y = ap (λ (r : Turn). silent_all mid until r.queue) (run_all-more now mid q t e) in

@@ -45,6 +45,7 @@ use Rattle.demands.proofs.Heard.{book_answer, book_of}
 use Rattle.demands.proofs.Laws.{Law, evicted-law, closed_by-law, plain-law, answered-law, tick-law, Plain, plain-none}
 use Rattle.demands.proofs.Cases.{cases}
 use Rattle.demands.proofs.Waiting.{front-last, last-last}
+use Rattle.std.specs.Prelude.{Some}
 
 -- ## An end is of one number only
 
@@ -368,7 +369,7 @@ module _ (s : Splicer) (es : List Entry) (b : Booked s.queue es) where
       )
 
   -- the entry of a request that is accepted
-  pub asked_entry : (c : ℕ) (l : List ℕ) (r : Request) → read_splice (data_in l) ≡ Splice r → unknown_prior c r.start q ≡ false
+  pub asked_entry : (c : ℕ) (l : List ℕ) (r : Request) → read_splice (data_in l) ≡ Some (Splice r) → unknown_prior c r.start q ≡ false
       → entry_of c (data_in l) es ≡ entry (requested c r q)
   unfolding entry_of end_asked mux_asked event_asked prior_asked overrides_asked requested session_at
   asked_entry c l r e u = rw (e, ← (read-id (data_in l) r e), told-start c r.start q es b.dated u)

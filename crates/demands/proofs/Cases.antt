@@ -34,6 +34,7 @@ use Rattle.rules.proofs.Recall.{by-recall}
 use Rattle.rules.proofs.Cases as rules
 use Rattle.demands.specs.Told.{is_out}
 use Rattle.demands.proofs.Laws.{Plain, plain-none}
+use Rattle.std.specs.Prelude.{Some}
 
 -- of no session's start, nor of the end of one that was on air
 pub record Offair (r : Record) : Type 0 where
@@ -58,7 +59,8 @@ pub record Cases (s : Splicer) (P : Call → Called → Type 0) : Type 0 where
   pub declining : (c : ℕ) (l : List ℕ) (loans : Loans) (n : ℕ) (r : Record) → is_splice l ≡ true
       → is_yes c (session_id (data_in l)) r ≡ false
       → Offair r → P (messages c l loans) (does n (r ∷ []) s)
-  pub accepting : (c : ℕ) (l : List ℕ) (loans : Loans) (n : ℕ) (r : Request) → is_splice l ≡ true → read_splice (data_in l) ≡ Splice r
+  pub accepting : (c : ℕ) (l : List ℕ) (loans : Loans) (n : ℕ) (r : Request) → is_splice l ≡ true → read_splice (data_in l)
+      ≡ Some (Splice r)
       → Passed s.clock c r s.queue → P (messages c l loans) (replies n (splices (grants (requested c r s.queue) s.queue) s))
   pub ticking : (seconds micros room : ℕ) → s.clock ≤ (from_micros (time_of seconds micros)).0
       → P (ticks seconds micros room) (ticked (from_micros (time_of seconds micros)).0 s)

@@ -9,8 +9,6 @@ use lib.Dec.{ltb}
 use lib.ListN.{length, get_or}
 use borrow.Author.Tests.{ltb-false, leb-true, leb-false, le-ltb}
 use Rattle.rules.specs.declared.Ninths.{Ninths}
-use Rattle.rules.specs.declared.When.{When}
-use Rattle.rules.specs.declared.When.TheVariants.{At, Never}
 use Rattle.rules.specs.declared.Refusal.TheVariants.{NoRoom, ClockBack, BadMicros}
 use Rattle.rules.specs.Units.{second, bad_micros, up_micros}
 use Rattle.rules.specs.State.{Splicer, due, not_after}
@@ -30,36 +28,37 @@ use Rattle.demands.specs.Due.{time_in, Before, NotBefore, FirstTick}
 use Rattle.demands.proofs.Refusals.{a-number}
 use Rattle.demands.proofs.Room.{from-sound}
 use Rattle.demands.proofs.Writes.{ticked-quiet, ticked-writes, ticked-stays}
+use Rattle.std.specs.Prelude.{None, Option, Some}
 
 -- by the words of `due_row`, whether it is before what is due
 module _ (until : ℕ) where
-  row_before : (w : When) → Before (due_row w) until → not_after until w ≡ Never
+  row_before : (w : Option Ninths) → Before (due_row w) until → not_after until w ≡ None
   unfolding due_row
-  row_before Never h = refl
-  row_before (At t) h =
+  row_before None h = refl
+  row_before (Some t) h =
       not_after-none until t
       (by (λ (r : List ℕ). Before r until → until < t.0) (beyond t.0) _ _ (λ e f. f (omega arith)) (λ e f. f (omega arith)) h)
 
-  pub record Comes (w : When) : Type 0 where
+  pub record Comes (w : Option Ninths) : Type 0 where
     pub t : Ninths
-    pub is : w ≡ At t
+    pub is : w ≡ Some t
     pub by-then : t.0 ≤ until
 
-  row-not-before : (w : When) → NotBefore (due_row w) until → Comes w
+  row-not-before : (w : Option Ninths) → NotBefore (due_row w) until → Comes w
   unfolding due_row
-  row-not-before Never h = absurd (omega (arith, h.0))
-  row-not-before (At t) h =
+  row-not-before None h = absurd (omega (arith, h.0))
+  row-not-before (Some t) h =
       let P : List ℕ → Type 0 = λ r. NotBefore r until → t.0 ≤ until in
       record { t = t; is = refl; by-then = by P (beyond t.0) _ _ (λ e f. f.1) (λ e f. f.1) h }
 
-  pub comes : {w : When} (c : Comes w) → not_after until w ≡ At c.t
+  pub comes : {w : Option Ninths} (c : Comes w) → not_after until w ≡ Some c.t
   comes c = ap (not_after until) c.is ∙ not_after-at until c.t c.by-then
 
-pub row-never : get_or (due_row Never) 0 0 ≡ 0
+pub row-never : get_or (due_row None) 0 0 ≡ 0
 unfolding due_row
 row-never = refl
 
-pub row_at : (t : Ninths) → (0 < get_or (due_row (At t)) 0 0) × (get_or (due_row (At t)) 1 0 ≡ t.0)
+pub row_at : (t : Ninths) → (0 < get_or (due_row (Some t)) 0 0) × (get_or (due_row (Some t)) 1 0 ≡ t.0)
 unfolding due_row
 row_at t =
     by (λ (r : List ℕ). (0 < get_or r 0 0) × (get_or r 1 0 ≡ t.0)) (beyond t.0) _ _
@@ -148,10 +147,10 @@ module _ (t : ℕ) where
   up_first seconds micros h = omega (arith, up-whole)
 
 -- the words name it
-pub row_first : (w : When) → get_or (due_row w) 0 0 ≡ 2 → FirstTick (due_row w)
+pub row_first : (w : Option Ninths) → get_or (due_row w) 0 0 ≡ 2 → FirstTick (due_row w)
 unfolding due_row
-row_first Never e = absurd (omega arith)
-row_first (At t) e =
+row_first None e = absurd (omega arith)
+row_first (Some t) e =
     by (λ (r : List ℕ). get_or r 0 0 ≡ 2 → FirstTick r) (beyond t.0) _ _ (λ f i. absurd (omega (arith, i)))
     (λ f i. let l = leb-false horizon (up_micros t.0 * 9) f in
     record {
@@ -162,11 +161,11 @@ row_first (At t) e =
     }) e
 
 -- with 0 or 1 there is none
-pub row-none : (w : When) → get_or (due_row w) 0 0 ≤ 1 → (seconds micros : ℕ) → seconds < 4294967296 → micros ≤ 999999
+pub row-none : (w : Option Ninths) → get_or (due_row w) 0 0 ≤ 1 → (seconds micros : ℕ) → seconds < 4294967296 → micros ≤ 999999
     → Before (due_row w) (time_in seconds micros)
 unfolding due_row
-row-none Never e seconds micros a b = λ k. absurd (omega (arith, k))
-row-none (At t) e seconds micros a b =
+row-none None e seconds micros a b = λ k. absurd (omega (arith, k))
+row-none (Some t) e seconds micros a b =
     by (λ (r : List ℕ). get_or r 0 0 ≤ 1 → Before r (time_in seconds micros)) (beyond t.0) _ _
     (λ f i k. let l = leb-true horizon (up_micros t.0 * 9) f in omega (arith, l)) (λ f i. absurd (omega (arith, i))) e
 

@@ -11,8 +11,6 @@ use lib.Seq.{get_or-set_same, get_or-set_other, length-take-le}
 use borrow.Author.Tests.{eqb-true, eqb-false, eq-eqb, ltb-false}
 use Rattle.rules.specs.declared.Link.TheVariants.{Closed, Opened}
 use Rattle.rules.specs.declared.Refusal.TheVariants.{NoConnection, AlreadyOpen}
-use Rattle.rules.specs.declared.Framing.{Framing}
-use Rattle.rules.specs.declared.Framing.TheVariants.{Framed, Unframed}
 use Rattle.rules.specs.declared.Session.{Session}
 use Rattle.rules.specs.Bytes.{message_size, oversize, data_of, has_zero}
 use Rattle.rules.specs.Reading.{read_alive, read_config, read, alive_request}
@@ -41,6 +39,10 @@ use Rattle.demands.specs.Kept.{is_initialising, initialises, changes, left, chan
 use Rattle.demands.specs.Kept.{Ready, state_in}
 use Rattle.demands.proofs.Refusals.{a-number}
 use Rattle.demands.proofs.Room.{from-sound, ready-open}
+use Rattle.std.specs.Prelude.{Err, Ok, Result}
+use Rattle.rules.specs.declared.Header.{Header}
+use Rattle.rules.specs.declared.Refusal.{Refusal}
+use Rattle.rules.specs.Calls.{headed}
 
 -- ## One call
 
@@ -177,11 +179,11 @@ kept-told h s f c =
 -- ## GetConfig
 
 -- a framed message is there
-abbrev Framing-long : List ℕ → Framing → Type 0
-Framing-long l (Unframed n) = Unit {0}
-Framing-long l (Framed id size) = 8 + size ≤ length l
+abbrev Framing-long : List ℕ → Result Header Refusal → Type 0
+Framing-long l (Err n) = Unit {0}
+Framing-long l (Ok h) = 8 + h.size ≤ length l
 
-framed-long : (l : List ℕ) (id size : ℕ) → framing l ≡ Framed id size → 8 + size ≤ length l
+framed-long : (l : List ℕ) (id size : ℕ) → framing l ≡ Ok (headed id size) → 8 + size ≤ length l
 unfolding framing
 framed-long l id size e =
     subst (Framing-long l) e

@@ -8,8 +8,6 @@ use native.Mathlib.Omega.{arith}
 use lib.Dec.{eqb, ltb}
 use lib.ListN.{length, get_or}
 use borrow.Author.Tests.{eqb-true, ltb-true}
-use Rattle.rules.specs.declared.When.{When}
-use Rattle.rules.specs.declared.When.TheVariants.{At, Never}
 use Rattle.rules.specs.declared.Session.{Session}
 use Rattle.rules.specs.declared.Ending.{Ending}
 use Rattle.rules.specs.declared.Ending.TheVariants.{Complete, Failed, Response}
@@ -36,6 +34,8 @@ use Rattle.rules.proofs.Sessions.{waiting-instant}
 use Rattle.demands.specs.Airing.{Airing, newest, lists, says_played, heard, by_then, heard_all}
 use Rattle.demands.proofs.Marks.{EndOf, StartOf, heard-plain, Late, by_then-late, heard_all-append}
 use Rattle.demands.proofs.Owned.{Waits, Plays, Base, Tells, Owned, end-started, end-waiting, start-waiting, time-passes, reorder}
+use Rattle.std.specs.Prelude.{None, Option, Some}
+use Rattle.rules.specs.declared.Ninths.{Ninths}
 
 -- ## Records
 
@@ -491,7 +491,7 @@ pub run-clocked : (n : ℕ) (β : Base) (now pr until : ℕ) (q : Queue) (l : Li
     → Clocked β until (pr + silent n now until q) (run n now until q).queue (heard_all until (run n now until q).written l)
 unfolding and_then heard_all
 run-clocked zero β now pr until q l f le h =
-    let e : not_after until (due q) ≡ Never = rw (due-none q f) in
+    let e : not_after until (due q) ≡ None = rw (due-none q f) in
     rw (run-stop zero now until q e, silent-stop zero now until q e) (rest-clocked β now pr until q l le (none-due (suc until) q f) h)
 run-clocked (suc n) β now pr until q l f le h = go (not_after until (due q)) refl (run-clocked n β)
   where
@@ -499,11 +499,11 @@ run-clocked (suc n) β now pr until q l f le h = go (not_after until (due q)) re
     Runs n now pr q l = Clocked β until (pr + silent n now until q) (run n now until q).queue
         (heard_all until (run n now until q).written l)
 
-    go : (a : When) → not_after until (due q) ≡ a
+    go : (a : Option Ninths) → not_after until (due q) ≡ a
         → ((t pr₁ until₁ : ℕ) (q₁ : Queue) (l₁ : List Airing) → to_come q₁ ≤ n → t ≤ until₁ → Clocked β t pr₁ q₁ l₁
         → Clocked β until₁ (pr₁ + silent n t until₁ q₁) (run n t until₁ q₁).queue (heard_all until₁ (run n t until₁ q₁).written l₁))
         → Runs (suc n) now pr q l
-    go (At t) e ih =
+    go (Some t) e ih =
         let u = (moved now t.0 q).queue in
         let rs = (run n t.0 until u).written in
         let i = due-time until t q e in
@@ -515,7 +515,7 @@ run-clocked (suc n) β now pr until q l f le h = go (not_after until (due q)) re
         rw (run_more n now until t q e, silent-more n now until t q e, same, heard_all-append until (moved now t.0 q).written rs l)
         (ih t.0 (pr + a) until u (heard_all (by_then until l rs) (moved now t.0 q).written l) (omega arith) i
         (moved-clocked β now pr t.0 (by_then until l rs) q l d (due-meets until t q e) v h))
-    go Never e ih = rw (run-stop (suc n) now until q e, silent-stop (suc n) now until q e)
+    go None e ih = rw (run-stop (suc n) now until q e, silent-stop (suc n) now until q e)
         (rest-clocked β now pr until q l le (due-last until q e) h)
 
 pub tick-clocked : (β : Base) (now pr until : ℕ) (q : Queue) (l : List Airing) → now ≤ until → Clocked β now pr q l

@@ -8,8 +8,6 @@ use native.Mathlib.Omega.{arith}
 use lib.Dec.{eqb, ltb}
 use borrow.Author.Tests.{ltb-false, le-ltb, ne_eqb, not-false}
 use Rattle.rules.specs.declared.Ninths.{Ninths}
-use Rattle.rules.specs.declared.When.{When}
-use Rattle.rules.specs.declared.When.TheVariants.{At, Never}
 use Rattle.rules.specs.declared.Session.{Session}
 use Rattle.rules.specs.Lists.{All, bit, count}
 use Rattle.rules.specs.State.{Queue, Splicer, due, not_after}
@@ -37,6 +35,7 @@ use Rattle.demands.specs.Airing.{Airing, airings_told, clock_told, number_told}
 use Rattle.demands.specs.Kept.{AsksAlive, Ready}
 use Rattle.demands.proofs.Book.{Dated}
 use Rattle.demands.proofs.Due.{row-never, row_at}
+use Rattle.std.specs.Prelude.{None, Option, Some}
 
 -- ## Who is on air
 
@@ -140,7 +139,7 @@ module _ (h : List Event) (s : Splicer) (f : FromFresh h s) where
       ≡ count (λ u. p (airing false u)) q.waiting + count (λ u. p (airing true u)) q.started
   unended = (owned-told h s f).unended
 
-  none_told : due q ≡ Never → All (λ a. a.over ≡ true) l
+  none_told : due q ≡ None → All (λ a. a.over ≡ true) l
   none_told e =
       let d : (n : ℕ) → Due (suc n) q = λ n. due-last n q (ap (not_after n) e) in
       all-into (λ a. (not a.over && true) ≡ false) (λ a. a.over ≡ true)
@@ -149,8 +148,8 @@ module _ (h : List Event) (s : Splicer) (f : FromFresh h s) where
       (unended (λ a. true)
       ∙ omega (arith, none-starts q.waiting (λ n. (d n).starts) (λ u. true), none-ends q.started (λ n. (d n).ends) (λ u. true))))
 
-  module _ (t : Ninths) (e : due q ≡ At t) where
-    now-due : not_after t.0 (due q) ≡ At t
+  module _ (t : Ninths) (e : due q ≡ Some t) where
+    now-due : not_after t.0 (due q) ≡ Some t
     now-due = ap (not_after t.0) e ∙ not_after-at t.0 t (omega arith)
 
     none_before : (g : Session → ℕ) (k : List Session) → All (λ u. t.0 ≤ g u) k → count (λ u. ltb (g u) t.0) k ≡ 0
@@ -180,14 +179,14 @@ module _ (h : List Event) (s : Splicer) (f : FromFresh h s) where
   pub due-as-told : DueTold h (due_row (due q))
   due-as-told = go (due q) refl
     where
-      go : (w : When) → due q ≡ w → DueTold h (due_row w)
-      go Never e =
+      go : (w : Option Ninths) → due q ≡ w → DueTold h (due_row w)
+      go None e =
           record {
             none = λ i. none_told e;
             least = λ i. absurd (omega (arith, row-never));
             one = λ i. absurd (omega (arith, row-never));
           }
-      go (At t) e =
+      go (Some t) e =
           let k = row_at t in
           record {
             none = λ i. absurd (omega (arith, k.0));

@@ -55,6 +55,7 @@ use Rattle.demands.proofs.Marks.{heard-plain, Stays, Onward, nothing, stays, onw
 use Rattle.demands.proofs.Owned.{airing, Waits, Plays, Listed, Past, Base, Owned, time-waiting, time-grows, over-on, accept-new}
 use Rattle.demands.proofs.Owned.{reorder}
 use Rattle.demands.proofs.Moments.{evicted-owned, closed_by-owned, aborted-owned, tick-clocked}
+use Rattle.std.specs.Prelude.{Some}
 
 -- ## Records that tell nothing
 
@@ -101,7 +102,7 @@ module _ (β : Base) (now pr : ℕ) (q : Queue) (l : List Airing) (o : Owned β 
       ap (λ n. (newest n p l).end) (eqb-true c s.conn k.0) ∙ ap (λ n. (newest s.conn n l).end) (eqb-true p s.id k.1)
       ∙ all_get_d Ends (held q) i empty h ends-told
 
-  asked-airing : (c : ℕ) (d : List ℕ) (r : Request) → read_splice d ≡ Splice r → unknown_prior c r.start q ≡ false
+  asked-airing : (c : ℕ) (d : List ℕ) (r : Request) → read_splice d ≡ Some (Splice r) → unknown_prior c r.start q ≡ false
       → airing_asked c (session_id d) (read_splice d) l ≡ airing false (requested c r q)
   unfolding airing_asked requested session_at
   asked-airing c d r e u = rw (e, ← (read-id d r e), told-start c r.start u)

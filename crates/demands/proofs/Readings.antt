@@ -8,8 +8,6 @@ use native.Mathlib.Omega.{arith}
 use lib.Dec.{leb, ltb}
 use lib.ListN.{length, get_or}
 use borrow.Author.Tests.{ltb-true, ltb-false, leb-true, leb-false, le-ltb, lt-leb}
-use Rattle.rules.specs.declared.When.{When}
-use Rattle.rules.specs.declared.When.TheVariants.{At, Never}
 use Rattle.rules.specs.declared.Refusal.TheVariants.{NoRoom, Counter}
 use Rattle.rules.specs.Units.{up_ticks}
 use Rattle.rules.specs.State.{due, not_after}
@@ -29,16 +27,18 @@ use Rattle.demands.specs.Due.{Before, NotBefore, step_from, FirstStep}
 use Rattle.demands.proofs.Refusals.{a-number}
 use Rattle.demands.proofs.Writes.{ticked-quiet, ticked-writes, ticked-found, ticked-stays, clock-ticked}
 use Rattle.demands.proofs.Due.{Comes, comes}
+use Rattle.std.specs.Prelude.{None, Option, Some}
+use Rattle.rules.specs.declared.Ninths.{Ninths}
 
 -- ## Readings of the rolling counter
 
 -- a step of d ticks from the clock that is not refused, by the words of `step_row` of a card whose instant was given
 module _ (last clock d : ℕ) where
-  step-before : (w : When) → d ≤ longest_step → clock + d * 100 < horizon → Before (step_row (at last) clock w) d
-      → not_after (clock + d * 100) w ≡ Never
+  step-before : (w : Option Ninths) → d ≤ longest_step → clock + d * 100 < horizon → Before (step_row (at last) clock w) d
+      → not_after (clock + d * 100) w ≡ None
   unfolding step_row
-  step-before Never short field h = refl
-  step-before (At t) short field h =
+  step-before None short field h = refl
+  step-before (Some t) short field h =
       let n = up_ticks (t.0 - clock) in
       let P : List ℕ → Type 0 = λ r. Before r d → clock + d * 100 < t.0 in
       not_after-none (clock + d * 100) t
@@ -46,10 +46,10 @@ module _ (last clock d : ℕ) where
       (λ e. by P (past_field (clock + n * 100)) _ _ (λ g i. let l = leb-true horizon (clock + n * 100) g in omega arith)
       (λ g i. let l = i (omega arith) in omega arith)) h)
 
-  step-not-before : (w : When) → NotBefore (step_row (at last) clock w) d → Comes (clock + d * 100) w
+  step-not-before : (w : Option Ninths) → NotBefore (step_row (at last) clock w) d → Comes (clock + d * 100) w
   unfolding step_row
-  step-not-before Never h = absurd (omega (arith, h.0))
-  step-not-before (At t) h =
+  step-not-before None h = absurd (omega (arith, h.0))
+  step-not-before (Some t) h =
       let n = up_ticks (t.0 - clock) in
       let P : List ℕ → Type 0 = λ r. NotBefore r d → t.0 ≤ clock + d * 100 in
       record {
@@ -61,11 +61,11 @@ module _ (last clock d : ℕ) where
       }
 
 -- what the words name is no longer step than is good, and does not pass the time field's last second
-pub step-first : (k : Last) (clock : ℕ) (w : When) → get_or (step_row k clock w) 0 0 ≡ 1 → FirstStep clock (step_row k clock w)
+pub step-first : (k : Last) (clock : ℕ) (w : Option Ninths) → get_or (step_row k clock w) 0 0 ≡ 1 → FirstStep clock (step_row k clock w)
 unfolding step_row
 step-first none clock w e = absurd (omega arith)
-step-first (at last) clock Never e = absurd (omega arith)
-step-first (at last) clock (At t) e =
+step-first (at last) clock None e = absurd (omega arith)
+step-first (at last) clock (Some t) e =
     let n = up_ticks (t.0 - clock) in
     let P : List ℕ → Type 0 = λ r. get_or r 0 0 ≡ 1 → FirstStep clock r in
     by P (ltb longest_step n) _ _ (λ f i. absurd (omega (arith, i)))
@@ -73,21 +73,22 @@ step-first (at last) clock (At t) e =
     (λ g i. record { short = ltb-false longest_step n f; field = leb-false horizon (clock + n * 100) g })) e
 
 -- before the instant is given they name none
-step_given : (clock : ℕ) (w : When) → 0 < get_or (step_row none clock w) 0 0 → ⊥
+step_given : (clock : ℕ) (w : Option Ninths) → 0 < get_or (step_row none clock w) 0 0 → ⊥
 unfolding step_row
 step_given clock w e = omega (arith, e)
 
 -- a good reading of d ticks, fewer than they name, leaves so many fewer
-fewer-left : (last x clock d : ℕ) (w : When) → get_or (step_row (at last) clock w) 0 0 ≡ 1 → d < get_or (step_row (at last) clock w) 1 0
-    → (not_after (clock + d * 100) w ≡ Never)
+fewer-left : (last x clock d : ℕ) (w : Option Ninths) → get_or (step_row (at last) clock w) 0 0 ≡ 1
+    → d < get_or (step_row (at last) clock w) 1 0
+    → (not_after (clock + d * 100) w ≡ None)
     × (step_row (at x) (clock + d * 100) w ≡ 1 ∷ (get_or (step_row (at last) clock w) 1 0 - d) ∷ [])
 unfolding step_row
-fewer-left last x clock d Never e h = absurd (omega (arith, e))
-fewer-left last x clock d (At t) e h =
+fewer-left last x clock d None e h = absurd (omega (arith, e))
+fewer-left last x clock d (Some t) e h =
     let n = up_ticks (t.0 - clock) in
     let k = up_ticks (t.0 - (clock + d * 100)) in
     let P : List ℕ → Type 0 = λ r. get_or r 0 0 ≡ 1 → d < get_or r 1 0
-    → (not_after (clock + d * 100) (At t) ≡ Never) × (within (clock + d * 100) k ≡ 1 ∷ (get_or r 1 0 - d) ∷ []) in
+    → (not_after (clock + d * 100) (Some t) ≡ None) × (within (clock + d * 100) k ≡ 1 ∷ (get_or r 1 0 - d) ∷ []) in
     by P (ltb longest_step n) _ _ (λ f i j. absurd (omega (arith, i)))
     (λ f. by P (past_field (clock + n * 100)) _ _ (λ g i j. absurd (omega (arith, i)))
     (λ g i j.
@@ -108,7 +109,7 @@ module _ (r : Rolling) where
   abbrev clock : ℕ
   clock = r.splicer.clock
 
-  abbrev next : When
+  abbrev next : Option Ninths
   next = due r.splicer.queue
 
   abbrev pub rolled_by : (reading room : ℕ) → Rolled
@@ -198,7 +199,7 @@ module _ (r : Rolling) where
     unfolding roll reading_call step_from rolls
     reading-leaves e few z = go r.last e few z
       where
-        leaves : (last : ℕ) → (not_after (clock + step_of last reading * 100) next ≡ Never)
+        leaves : (last : ℕ) → (not_after (clock + step_of last reading * 100) next ≡ None)
             × (step_row (at reading) (clock + step_of last reading * 100) next
             ≡ 1 ∷ (get_or (step_row (at last) clock next) 1 0 - step_of last reading) ∷ [])
             → steps_of (rolling_of (comes_to (brings (clock + step_of last reading * 100))))

@@ -10,7 +10,6 @@ use Rattle.rules.specs.declared.Refusal.{Refusal}
 use Rattle.rules.specs.declared.Link.TheVariants.{Opened}
 use Rattle.rules.specs.declared.Refusal.TheVariants.{NoConnection, NoRoom, ClockBack, Oversize, Short, AlreadyOpen, NotOpen, BadMicros}
 use Rattle.rules.specs.declared.Refusal.TheVariants.{BadName, Counter, LongSection, BadSection, NotSixteen}
-use Rattle.rules.specs.declared.Framing.TheVariants.{Framed, Unframed}
 use Rattle.rules.specs.Units.{time_of, bad_micros, from_micros}
 use Rattle.rules.specs.Bytes.{message_id, message_size, oversize, has_zero, name_in}
 use Rattle.rules.specs.State.{Splicer, link_of, is_open, with_link, with_queue}
@@ -24,6 +23,8 @@ use Rattle.rules.specs.Calls.{tick_call, Call, opens, closes, messages, ticks, m
 use Rattle.rules.proofs.Refused as rules
 use Rattle.rules.proofs.Written.{written_none}
 use Rattle.demands.specs.Told.{first_number, checks, number_of, Unchanged}
+use Rattle.std.specs.Prelude.{Err, Ok}
+use Rattle.rules.specs.Calls.{headed}
 
 module _ (s : Splicer) where
   pub unchanged : (k : Call) (n : Refusal) → (call k s).answer ≡ refused n → Unchanged s (call k s)
@@ -56,8 +57,8 @@ module _ (s : Splicer) where
     where
       go : (a b d h e f g : Bool)
           → number_of (cond a (refuse NoConnection s) (cond b (refuse NoRoom s) (cond d (refuse NotOpen s) (cond h (refuse LongSection s)
-          (handled c (cond e (Unframed Short) (cond f (Unframed Oversize)
-          (cond g (Unframed Short) (Framed (message_id l) (message_size l)))))
+          (handled c (cond e (Err Short) (cond f (Err Oversize)
+          (cond g (Err Short) (Ok (headed (message_id l) (message_size l))))))
           l loans s))))).answer
           ≡ cond a 1 (cond b 2 (cond d 7 (cond h 10 (cond e 5 (cond f 4 (cond g 5 0))))))
       go true b d h e f g = refl

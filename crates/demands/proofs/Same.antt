@@ -9,7 +9,7 @@ use borrow.Author.Tests.{eqb-true}
 use Rattle.rules.specs.declared.Start.{Start}
 use Rattle.rules.specs.declared.Start.TheVariants.{Timed, Linked}
 use Rattle.rules.specs.declared.Message.{Message}
-use Rattle.rules.specs.declared.Message.TheVariants.{Init, Alive, Splice, Abort, Config, Extended, Unreadable}
+use Rattle.rules.specs.declared.Message.TheVariants.{Init, Alive, Splice, Abort, Config, Extended}
 use Rattle.rules.specs.Lists.{put, omit}
 use Rattle.rules.specs.Request.{session_id, read_splice}
 use Rattle.rules.specs.Follows.ReadBack.{data_in}
@@ -26,6 +26,7 @@ use Rattle.rules.proofs.Tests.{and_both}
 use Rattle.demands.specs.Airing.{Airing, airing_is, newest, begins, ends, marked, concerns, heard, by_then, heard_all, start_asked}
 use Rattle.demands.specs.Airing.{airing_asked, aired_answered, aired_after, aired_replied, airings}
 use Rattle.demands.proofs.Marks.{other}
+use Rattle.std.specs.Prelude.{None, Option, Some}
 
 pub record Key : Type 0 where
   pub conn : ℕ
@@ -109,15 +110,15 @@ module _ (l : List Airing) (es : List Entry) (h : map of_airing l ≡ map of_ent
   start-told c (Timed t) = refl
   start-told c (Linked p) = end-told c p l es h
 
-  key-asked : (c x : ℕ) (m : Message) → of_airing (airing_asked c x m l) ≡ record { conn = c; id = x; end = end_asked c m es }
+  key-asked : (c x : ℕ) (m : Option Message) → of_airing (airing_asked c x m l) ≡ record { conn = c; id = x; end = end_asked c m es }
   unfolding airing_asked end_asked
-  key-asked c x (Init revision) = refl
-  key-asked c x Alive = refl
-  key-asked c x (Splice r) = rw (start-told c r.start)
-  key-asked c x (Abort y) = refl
-  key-asked c x (Extended y) = refl
-  key-asked c x Config = refl
-  key-asked c x Unreadable = refl
+  key-asked c x (Some (Init revision)) = refl
+  key-asked c x (Some Alive) = refl
+  key-asked c x (Some (Splice r)) = rw (start-told c r.start)
+  key-asked c x (Some (Abort y)) = refl
+  key-asked c x (Some (Extended y)) = refl
+  key-asked c x (Some Config) = refl
+  key-asked c x None = refl
 
   heard-credited : (u : ℕ) (rs : List Record) → map of_airing (heard_all u rs l) ≡ map of_entry (credited rs es)
   heard-credited u rs = key-heard_all u rs l ∙ h ∙ sym (key-credited rs es)

@@ -9,8 +9,6 @@ use lib.Dec.{ltb}
 use lib.ListN.{length, get_or, length-append, length-map}
 use borrow.Author.Tests.{ltb-true, ltb-false, le-ltb}
 use Rattle.rules.specs.declared.Ninths.{Ninths}
-use Rattle.rules.specs.declared.When.{When}
-use Rattle.rules.specs.declared.When.TheVariants.{At, Never}
 use Rattle.rules.specs.declared.Session.{Session}
 use Rattle.rules.specs.declared.Ending.{Ending}
 use Rattle.rules.specs.declared.Ending.TheVariants.{Complete}
@@ -29,6 +27,7 @@ use Rattle.rules.proofs.Count.{length-keep, place_none}
 use Rattle.rules.proofs.Tick.{meets, due-meets, moved, elapse-meets, run-stop, run_more, run_all-enough}
 use Rattle.rules.proofs.Fitted.{records_of}
 use Rattle.rules.proofs.Sound.{sound-found}
+use Rattle.std.specs.Prelude.{None, Option, Some}
 
 -- ## Each start and each end writes a record
 
@@ -80,11 +79,11 @@ instant-writes t q h =
 
 module _ (now until : ℕ) (q : Queue) where
   -- nothing is due by then
-  run-quiet : not_after until (due q) ≡ Never → (run_all now until q).written ≡ []
+  run-quiet : not_after until (due q) ≡ None → (run_all now until q).written ≡ []
   unfolding run_all
   run-quiet e = ap (λ (t : Turn). t.written) (run-stop (to_come q) now until q e)
 
-  run-writes : (t : Ninths) → not_after until (due q) ≡ At t → 0 < length (run_all now until q).written
+  run-writes : (t : Ninths) → not_after until (due q) ≡ Some t → 0 < length (run_all now until q).written
   unfolding and_then
   run-writes t e =
       let i = moved now t.0 q in
@@ -98,11 +97,11 @@ module _ (now until : ℕ) (q : Queue) where
 
 -- the records of the clock brought to until
 module _ (until : ℕ) (s : Splicer) where
-  pub ticked-quiet : not_after until (due s.queue) ≡ Never → written_by (ticked until s).answer ≡ []
+  pub ticked-quiet : not_after until (due s.queue) ≡ None → written_by (ticked until s).answer ≡ []
   unfolding ticked written_by output
   ticked-quiet e = ap output (run-quiet s.clock until s.queue e)
 
-  pub ticked-writes : (t : Ninths) → not_after until (due s.queue) ≡ At t → 0 < length (records_of (ticked until s).answer)
+  pub ticked-writes : (t : Ninths) → not_after until (due s.queue) ≡ Some t → 0 < length (records_of (ticked until s).answer)
   unfolding ticked
   ticked-writes t e = run-writes s.clock until s.queue t e
 
@@ -122,9 +121,9 @@ earliest-on_air d (s ∷ k) = refl
 
 due-elapse : (d : ℕ) (q : Queue) → due (elapse d q) ≡ due q
 unfolding due elapse
-due-elapse d q = ap (λ (w : When). sooner w (earliest (λ s. s.start) q.waiting)) (earliest-on_air d q.started)
+due-elapse d q = ap (λ (w : Option Ninths). sooner w (earliest (λ s. s.start) q.waiting)) (earliest-on_air d q.started)
 
-pub ticked-stays : (until : ℕ) (s : Splicer) → not_after until (due s.queue) ≡ Never
+pub ticked-stays : (until : ℕ) (s : Splicer) → not_after until (due s.queue) ≡ None
     → due (ticked until s).splicer.queue ≡ due s.queue
 unfolding ticked run_all
 ticked-stays until s e =

@@ -3,7 +3,7 @@ use Rattle.std.specs.Prelude.{Bool, true, false, cond, not, ◌&&◌, ◌||◌, 
 use Rattle.rules.specs.declared.Start.{Start}
 use Rattle.rules.specs.declared.Start.TheVariants.{Timed, Linked}
 use Rattle.rules.specs.declared.Message.{Message}
-use Rattle.rules.specs.declared.Message.TheVariants.{Init, Alive, Splice, Abort, Config, Extended, Unreadable}
+use Rattle.rules.specs.declared.Message.TheVariants.{Init, Alive, Splice, Abort, Config, Extended}
 use Rattle.rules.specs.Units.{from_micros, from_ticks}
 use Rattle.rules.specs.Lists.{bit, some, put}
 use Rattle.rules.specs.Request.{session_id, read_splice}
@@ -14,6 +14,8 @@ use Rattle.rules.specs.Records.{ExtendedFound, ExtendedNone, CueRequest}
 use Rattle.rules.specs.Follows.ReadBack.{records_in}
 use Rattle.rules.specs.Calls.{Call, opens, closes, messages, ticks, moves, cues}
 use Rattle.demands.specs.History.{Reply, refusal, wrote, Event, is_start, is_end, granted_in, others_in, clock_replied, clock_after}
+use Rattle.std.specs.declared.option.Option.{Option}
+use Rattle.std.specs.declared.option.Option.TheVariants.{Some, None}
 
 -- ## Sessions as calls and answers tell them
 
@@ -158,16 +160,16 @@ granted c x a t e = record {
 }
 
 -- the session that a Splice_Request asks for: "End is start plus Duration"
-unfoldable pub airing_asked : ℕ → ℕ → Message → List Airing → Airing
-airing_asked c x (Init revision) es = granted c x 0 0 0
-airing_asked c x Alive es = granted c x 0 0 0
-airing_asked c x (Splice r) es =
+unfoldable pub airing_asked : ℕ → ℕ → Option Message → List Airing → Airing
+airing_asked c x (Some (Init revision)) es = granted c x 0 0 0
+airing_asked c x (Some Alive) es = granted c x 0 0 0
+airing_asked c x (Some (Splice r)) es =
     let t = start_asked c r.start es in
     granted c x r.access t (t + (from_ticks r.duration).0)
-airing_asked c x (Abort y) es = granted c x 0 0 0
-airing_asked c x (Extended y) es = granted c x 0 0 0
-airing_asked c x Config es = granted c x 0 0 0
-airing_asked c x Unreadable es = granted c x 0 0 0
+airing_asked c x (Some (Abort y)) es = granted c x 0 0 0
+airing_asked c x (Some (Extended y)) es = granted c x 0 0 0
+airing_asked c x (Some Config) es = granted c x 0 0 0
+airing_asked c x None es = granted c x 0 0 0
 
 -- the answer to a message l of connection d. A Splice_Request's own answer is no end
 unfoldable pub aired_answered : ℕ → ℕ → List ℕ → List Record → List Airing → List Airing

@@ -1,10 +1,10 @@
 -- Demand 3: a connection's waiting sessions, starts and ends, taken from calls and answer bytes alone.
-use Rattle.std.specs.Prelude.{Bool, false, cond, not, ◌&&◌, ◌||◌, List, [], ◌∷◌, ℕ, ◌+◌, eqb, length}
+use Rattle.std.specs.Prelude.{Bool, false, cond, not, ◌&&◌, ◌||◌, List, [], ◌∷◌, ℕ, ◌+◌, eqb, length, None, Option, Some}
 use Rattle.rules.specs.declared.Refusal.{Refusal}
 use Rattle.rules.specs.declared.Start.{Start}
 use Rattle.rules.specs.declared.Start.TheVariants.{Timed, Linked}
 use Rattle.rules.specs.declared.Message.{Message}
-use Rattle.rules.specs.declared.Message.TheVariants.{Init, Alive, Splice, Abort, Config, Extended, Unreadable}
+use Rattle.rules.specs.declared.Message.TheVariants.{Init, Alive, Splice, Abort, Config, Extended}
 use Rattle.rules.specs.Units.{time_of, from_micros, from_ticks}
 use Rattle.rules.specs.Lists.{put, keep, count}
 use Rattle.rules.specs.Request.{session_id, read_splice}
@@ -208,54 +208,54 @@ start_told c (Timed t) es = (from_micros t).0
 start_told c (Linked p) es = end_told c p es
 
 -- the end that a message asks for: "End is start plus Duration"
-unfoldable pub end_asked : ℕ → Message → List Entry → ℕ
-end_asked c (Init revision) es = 0
-end_asked c Alive es = 0
-end_asked c (Splice r) es = start_told c r.start es + (from_ticks r.duration).0
-end_asked c (Abort x) es = 0
-end_asked c (Extended x) es = 0
-end_asked c Config es = 0
-end_asked c Unreadable es = 0
+unfoldable pub end_asked : ℕ → Option Message → List Entry → ℕ
+end_asked c (Some (Init revision)) es = 0
+end_asked c (Some Alive) es = 0
+end_asked c (Some (Splice r)) es = start_told c r.start es + (from_ticks r.duration).0
+end_asked c (Some (Abort x)) es = 0
+end_asked c (Some (Extended x)) es = 0
+end_asked c (Some Config) es = 0
+end_asked c None es = 0
 
 -- what a message asks of the multiplexer
-unfoldable pub mux_asked : Message → ℕ
-mux_asked (Init revision) = 0
-mux_asked Alive = 0
-mux_asked (Splice r) = r.mux
-mux_asked (Abort x) = 0
-mux_asked (Extended x) = 0
-mux_asked Config = 0
-mux_asked Unreadable = 0
+unfoldable pub mux_asked : Option Message → ℕ
+mux_asked (Some (Init revision)) = 0
+mux_asked (Some Alive) = 0
+mux_asked (Some (Splice r)) = r.mux
+mux_asked (Some (Abort x)) = 0
+mux_asked (Some (Extended x)) = 0
+mux_asked (Some Config) = 0
+mux_asked None = 0
 
 -- the SpliceEventID of a message
-unfoldable pub event_asked : Message → ℕ
-event_asked (Init revision) = 0
-event_asked Alive = 0
-event_asked (Splice r) = r.event
-event_asked (Abort x) = 0
-event_asked (Extended x) = 0
-event_asked Config = 0
-event_asked Unreadable = 0
+unfoldable pub event_asked : Option Message → ℕ
+event_asked (Some (Init revision)) = 0
+event_asked (Some Alive) = 0
+event_asked (Some (Splice r)) = r.event
+event_asked (Some (Abort x)) = 0
+event_asked (Some (Extended x)) = 0
+event_asked (Some Config) = 0
+event_asked None = 0
 
 -- the PriorSession of a message
-unfoldable pub prior_asked : Message → ℕ
-prior_asked (Init revision) = 0
-prior_asked Alive = 0
-prior_asked (Splice r) = prior_of r.start
-prior_asked (Abort x) = 0
-prior_asked (Extended x) = 0
-prior_asked Config = 0
-prior_asked Unreadable = 0
+unfoldable pub prior_asked : Option Message → ℕ
+prior_asked (Some (Init revision)) = 0
+prior_asked (Some Alive) = 0
+prior_asked (Some (Splice r)) = prior_of r.start
+prior_asked (Some (Abort x)) = 0
+prior_asked (Some (Extended x)) = 0
+prior_asked (Some Config) = 0
+prior_asked None = 0
 
 -- the OverridePlaying of a message
-unfoldable pub overrides_asked : Message → ℕ
-overrides_asked (Init revision) = 0
-overrides_asked Alive = 0
-overrides_asked (Splice r) = r.overrides
-overrides_asked (Abort x) = 0
-overrides_asked (Extended x) = 0
-overrides_asked Config = 0
-overrides_asked Unreadable = 0
+unfoldable pub overrides_asked : Option Message → ℕ
+overrides_asked (Some (Init revision)) = 0
+overrides_asked (Some Alive) = 0
+overrides_asked (Some (Splice r)) = r.overrides
+overrides_asked (Some (Abort x)) = 0
+overrides_asked (Some (Extended x)) = 0
+overrides_asked (Some Config) = 0
+overrides_asked None = 0
 
 -- the entry of a Splice_Request with the data d
 unfoldable pub entry_of : ℕ → List ℕ → List Entry → Entry

@@ -1,6 +1,5 @@
 -- 02, CR 6: the Hardware_Config that a connection keeps, from the calls and the answers' bytes alone, and the answers that tell it.
-use Rattle.std.specs.Prelude.{◌≡◌, Bool, true, false, cond, ◌&&◌, List, [], ◌∷◌, ℕ, eqb}
-use Rattle.rules.specs.declared.Framing.TheVariants.{Framed}
+use Rattle.std.specs.Prelude.{◌≡◌, Bool, true, false, cond, ◌&&◌, List, [], ◌∷◌, ℕ, eqb, Ok}
 use Rattle.rules.specs.Reading.{alive_request, config_request}
 use Rattle.rules.specs.Hardware.{hardware_in}
 use Rattle.rules.specs.Follows.ReadBack.{data_in}
@@ -12,6 +11,7 @@ use Rattle.rules.specs.HouseNumbers.{no_connection, no_room, long_section, Loans
 use Rattle.rules.specs.Calls.{framing, Call, opens, closes, messages, ticks, moves, cues}
 use Rattle.rules.specs.Follows.Sound.{Wired}
 use Rattle.demands.specs.History.{Reply, refusal, wrote, Event}
+use Rattle.rules.specs.Calls.{headed}
 
 -- ## What is kept: "the Hardware_Config of their Init_Request"; "A later Init that gets 100 replaces it; close forgets it."
 
@@ -74,7 +74,7 @@ pub record Sends (c : ℕ) (l : List ℕ) (loans : Loans) (id size : ℕ) (s : S
   pub roomy : no_room loans.room ≡ false
   pub sections : long_section loans ≡ false
   -- l begins with it
-  pub framed : framing l ≡ Framed id size
+  pub framed : framing l ≡ Ok (headed id size)
 
 -- a GetConfig_Request without data
 abbrev pub AsksConfig : ℕ → List ℕ → Loans → Splicer → Type 0

@@ -1,5 +1,5 @@
 -- What the demands' statements speak of, beside the definitions of `rules`.
-use Rattle.std.specs.Prelude.{◌≡◌, Bool, true, false, cond, ◌&&◌, List, [], ◌∷◌, ◌++◌, ℕ, ◌+◌, ◌-◌, ◌≤◌, ◌<◌, eqb, ltb, length, get_or}
+use Rattle.std.specs.Prelude.{◌≡◌, Bool, true, false, cond, ◌&&◌, List, [], ◌∷◌, ◌++◌, ℕ, ◌+◌, ◌-◌, ◌≤◌, ◌<◌, eqb, ltb, length, get_or, Ok}
 use Rattle.std.specs.Prelude.{drop}
 use Rattle.rules.specs.declared.Request.{Request}
 use Rattle.rules.specs.declared.Cue.{Cue}
@@ -7,7 +7,6 @@ use Rattle.rules.specs.declared.Cue.TheVariants.{At, Timeless, Silent, Bad}
 use Rattle.rules.specs.declared.Session.{Session}
 use Rattle.rules.specs.declared.Past.{Past}
 use Rattle.rules.specs.declared.Message.TheVariants.{Splice, Extended}
-use Rattle.rules.specs.declared.Framing.TheVariants.{Framed}
 use Rattle.rules.specs.Units.{time_of, bad_micros, from_micros}
 use Rattle.rules.specs.Lists.{All, keep, some, count}
 use Rattle.rules.specs.Follows.Wires.{Byte}
@@ -32,6 +31,8 @@ use Rattle.rules.specs.Calls.{fresh, framing, Call, opens, closes, messages, tic
 use Rattle.demands.specs.History.{Reply, refusal, wrote, Event, Entry, entry_is, mux_told, starts_of, ends_of, history, granted_in}
 use Rattle.demands.specs.History.{waiting_count, tells, others_of}
 use Rattle.rules.specs.Follows.Sound.{Wired}
+use Rattle.rules.specs.Calls.{headed}
+use Rattle.std.specs.declared.option.Option.TheVariants.{Some}
 
 -- "Over all sequences of opens, closes, messages and ticks from a fresh splicer": h, the calls with their answers, and s, the splicer
 -- after them. The name has 32 bytes, bytes are bytes and times stay below what four bytes of Seconds hold; nothing else is asked of the
@@ -59,8 +60,8 @@ pub record Asks (c : ℕ) (l : List ℕ) (loans : Loans) (r : Request) (s : Spli
   pub roomy : no_room loans.room ≡ false
   pub sections : long_section loans ≡ false
   pub ready : is_initialised (link_of c s) ≡ true
-  pub framed : framing l ≡ Framed splice_request (message_size l)
-  pub readable : read_splice (data_in l) ≡ Splice r
+  pub framed : framing l ≡ Ok (headed splice_request (message_size l))
+  pub readable : read_splice (data_in l) ≡ Some (Splice r)
 
 -- and it passes b to d
 pub record Passes (c : ℕ) (r : Request) (s : Splicer) : Type 0 where
@@ -233,8 +234,8 @@ pub record Inquires (c : ℕ) (l : List ℕ) (loans : Loans) (x : ℕ) (s : Spli
   pub short : long_section loans ≡ false
   pub ready : is_initialised (link_of c s) ≡ true
   -- l begins with one, for x
-  pub framed : framing l ≡ Framed extended_request (message_size l)
-  pub readable : read_extended (data_in l) ≡ Extended x
+  pub framed : framing l ≡ Ok (headed extended_request (message_size l))
+  pub readable : read_extended (data_in l) ≡ Some (Extended x)
 
 -- the answer's bytes b are what the list says, newest first: "the asking connection's latest ended session of that number", or "121 with
 -- the

@@ -277,12 +277,12 @@ module _ (name : List ℕ) (h : List Made) (m : Memory) where
 
   -- so the first of them is the next start of all
   pub first-starts-next : Trace name h m → 0 < length (shown m).queue.waiting →
-      earliest (λ s. s.start) (shown m).queue.waiting ≡ At (get_or (shown m).queue.waiting 0 empty).start
+      earliest (λ s. s.start) (shown m).queue.waiting ≡ Some (get_or (shown m).queue.waiting 0 empty).start
   first-starts-next t = called.first-starts-next name (within h) m (trace-inside name h m t)
 
   -- and with none started it is what is due next
   pub first-is-next : Trace name h m → 0 < length (shown m).queue.waiting → (shown m).queue.started ≡ [] →
-      due (shown m).queue ≡ At (get_or (shown m).queue.waiting 0 empty).start
+      due (shown m).queue ≡ Some (get_or (shown m).queue.waiting 0 empty).start
   first-is-next t = called.first-is-next name (within h) m (trace-inside name h m t)
 
 -- ## Document 02, CR 11

@@ -15,8 +15,8 @@ use Rattle.rules.specs.HouseNumbers.{refused, good, Called, house_number, consum
 use Rattle.rules.specs.Calls.{call}
 use Rattle.rules.proofs.All.{at_all}
 use Rattle.demands.specs.Told.{number_of}
-use Rattle.engine.specs.declared.Answer.{Answer}
-use Rattle.engine.specs.declared.Answer.TheVariants.{Refused, Done}
+use Rattle.engine.specs.Lent.{Answer}
+use Rattle.std.specs.Prelude.{Err, Ok}
 use Rattle.engine.specs.Lent.{answer_of, Answers}
 use Rattle.door.specs.Door.{reply_of, Replies, Input, an_open, a_close, a_message, a_tick, a_cue, Typed, call_of, buffer_of, Seen, Allowed}
 use Rattle.door.proofs.Laws.{reply-is}
@@ -47,28 +47,28 @@ refusal-read NotSixteen = (refl, refl)
 -- of a reply that the door gives, C reads what the engine's answer has
 pub number-told : (a : Answer) → number_in (reply_of a) ≡ engine.number_in a
 unfolding reply_of engine.number_in
-number-told (Refused n) = refl
-number-told (Done did) = refl
+number-told (Err n) = refl
+number-told (Ok did) = refl
 
 answer-read : (a : Answer) → answer_in (reply_of a) ≡ a
 unfolding reply_of
-answer-read (Refused n) = rw ((refusal-read n).0, (refusal-read n).1) refl
-answer-read (Done did) = refl
+answer-read (Err n) = rw ((refusal-read n).0, (refusal-read n).1) refl
+answer-read (Ok did) = refl
 
 pub moved_told : (a : Answer) → moved_in (reply_of a) ≡ engine.moved_in a
 unfolding reply_of engine.moved_in
-moved_told (Refused n) = refl
-moved_told (Done did) = refl
+moved_told (Err n) = refl
+moved_told (Ok did) = refl
 
 bytes-told : (a : Answer) (o : List ℕ) → take (written_in (reply_of a)) o ≡ engine.bytes_in a o
 unfolding reply_of engine.bytes_in
-bytes-told (Refused n) o = refl
-bytes-told (Done did) o = refl
+bytes-told (Err n) o = refl
+bytes-told (Ok did) o = refl
 
 reply-told : (a : Answer) (o : List ℕ) → reply_in (reply_of a) o ≡ engine.reply_in a o
 unfolding reply_of engine.reply_in engine.bytes_in
-reply-told (Refused n) o = rw ((refusal-read n).0, (refusal-read n).1) refl
-reply-told (Done did) o = refl
+reply-told (Err n) o = rw ((refusal-read n).0, (refusal-read n).1) refl
+reply-told (Ok did) o = refl
 
 -- and what document 01 says
 words-ruled : (a : numbers.Answer) (k : ℕ) → reply_of (answer_of a k) ≡ words_of a k

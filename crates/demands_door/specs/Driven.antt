@@ -1,6 +1,6 @@
 -- A trace as the driver in C sees it: fresh, then any of the door's calls, any number of them in any order. What C hands in and sees, and
 -- what a contract allows (`Typed`, `Seen`, `Replies`, `Allowed`), stands in door/specs/Door; door/proofs/Cited holds it to the source.
-use Rattle.std.specs.Prelude.{◌≡◌, cond, List, [], ◌∷◌, map, ℕ, eqb, length, get_or, take}
+use Rattle.std.specs.Prelude.{◌≡◌, cond, List, [], ◌∷◌, map, ℕ, eqb, length, get_or, take, Err, Ok}
 use Rattle.rules.specs.declared.Refusal.{Refusal}
 use Rattle.rules.specs.declared.Refusal.TheVariants.{NoConnection, NoRoom, ClockBack, Oversize, Short, AlreadyOpen, NotOpen, BadMicros}
 use Rattle.rules.specs.declared.Refusal.TheVariants.{BadName, Counter, LongSection, BadSection, NotSixteen}
@@ -9,8 +9,7 @@ use Rattle.rules.specs.Calls.{Call, call, fresh}
 use Rattle.rules.specs.HouseNumbers.{house_number, written_by, consumed_by, buffer_after}
 use Rattle.demands.specs.History.{Reply, refusal, wrote, Event}
 use Rattle.demands.specs.Told.{number_of}
-use Rattle.engine.specs.declared.Answer.{Answer}
-use Rattle.engine.specs.declared.Answer.TheVariants.{Refused, Done}
+use Rattle.engine.specs.Lent.{Answer}
 use Rattle.door.specs.Door.{Replies, Input, an_open, a_close, a_message, a_tick, a_cue, pts_of, Typed, call_of, buffer_of, Seen, Allowed}
 use Rattle.demands_engine.specs.Device.{Device}
 use Rattle.demands_engine.specs.Device as any
@@ -143,8 +142,8 @@ handed (a_cue l g e) = engine.a_cue l (pts_of g) (get_or g 2 0) (get_or g 3 0) e
 
 -- the engine's answer, from the reply's words
 abbrev pub answer_in : List ℕ → Answer
-answer_in w = cond (eqb (number_in w) 0) (Done (record { consumed = consumed_in w; written = written_in w; moved = moved_in w }))
-    (Refused (refusal_among refusals (number_in w)))
+answer_in w = cond (eqb (number_in w) 0) (Ok (record { consumed = consumed_in w; written = written_in w; moved = moved_in w }))
+    (Err (refusal_among refusals (number_in w)))
 
 abbrev pub inside : Seen → engine.Result
 inside r = record { answer = answer_in r.reply; memory = left r; buffer = r.buffer }

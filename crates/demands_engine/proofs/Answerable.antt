@@ -21,8 +21,8 @@ use Rattle.memory.specs.Memory as lent
 use Rattle.memory.proofs.Laws.{all-flagged, waiting-of-four, cleared-now}
 use Rattle.memory.proofs.Names.{blank, named, standing, stands, name-short}
 use Rattle.memory.proofs.Packed.{stood, stood-now}
-use Rattle.engine.specs.declared.Answer.{Answer}
-use Rattle.engine.specs.declared.Answer.TheVariants.{Refused, Done}
+use Rattle.engine.specs.Lent.{Answer}
+use Rattle.std.specs.Prelude.{Err, Ok}
 use Rattle.engine.specs.Lent.{Lent, answer_of, Answers}
 use Rattle.engine.proofs.Beginning.{fresh-good, fresh-bad}
 use Rattle.demands_engine.specs.Trace.{Memory, shown, Input, an_open, a_close, a_message, a_tick, a_move, a_cue, Typed, call_of, buffer_of}
@@ -125,8 +125,8 @@ module _ (name : List ℕ) (long : length name ≡ 32) (bytes : All Byte name) w
 
       go : (z : Bool) → has_zero name ≡ z → Run name is
       go true e =
-          from (blank (name_in name)) (Done (record { consumed = 0; written = 0; moved = 0 }))
+          from (blank (name_in name)) (Ok (record { consumed = 0; written = 0; moved = 0 }))
           (fresh-good name long bytes cleared-now (named (name_in name) (name_in-zero name) (omega (arith, name-short name))) e)
       go false e =
-          from (blank []) (Refused BadName)
+          from (blank []) (Err BadName)
           (fresh-bad name long bytes cleared-now (named [] refl (omega arith)) e)

@@ -9,7 +9,7 @@ use Rattle.demands.specs.Told.{number_of}
 use Rattle.demands.proofs.Between.{Brings, brings-only, alone-good, together-state, together-bytes, later-good}
 use Rattle.memory.specs.Memory.{see, shifted}
 use Rattle.memory.proofs.Laws as lent
-use Rattle.engine.specs.declared.Answer.{Answer}
+use Rattle.engine.specs.Lent.{Answer}
 use Rattle.engine.specs.Lent.{Answers}
 use Rattle.demands_engine.specs.Trace.{Memory, shown, Result, Promises, number_in, bytes_in, number, bytes_of}
 use Rattle.demands_engine.proofs.Steps.{bytes_read, number_read, memory-same}

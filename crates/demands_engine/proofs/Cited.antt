@@ -20,7 +20,7 @@ use Rattle.rules.specs.State.{Splicer}
 use Rattle.rules.specs.Calls as rules
 use Rattle.rules.specs.Calls.{call}
 use Rattle.memory.specs.Memory.{see}
-use Rattle.engine.specs.declared.Answer.{Answer}
+use Rattle.engine.specs.Lent.{Answer}
 use Rattle.engine.specs.Lent.{Answers, needed, Counts, Primary, ReadsMux, ReadsFeed, ReadsAir, ReadsDue, ReadsSessions}
 use Rattle.engine.proofs.Held.{kind, Holds, Same, both, number-held, name-held, InRoom, bytes-held}
 use Rattle.engine.specs.contracts.fresh as fresh

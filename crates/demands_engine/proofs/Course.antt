@@ -8,7 +8,7 @@ use Rattle.rules.specs.Bytes.{has_zero}
 use Rattle.rules.specs.Calls.{fresh, Call, after}
 use Rattle.demands.specs.History.{Reply, Event, history}
 use Rattle.rules.specs.Follows.Sound.{Wired}
-use Rattle.engine.specs.declared.Answer.{Answer}
+use Rattle.engine.specs.Lent.{Answer}
 use Rattle.engine.specs.Lent.{Lent}
 use Rattle.engine.proofs.Laws.{answers-same, fresh-refused}
 use Rattle.demands.specs.Told.{FromFresh}

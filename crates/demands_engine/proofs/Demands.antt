@@ -51,8 +51,8 @@ module _ (name : List ℕ) (h : List Made) (m : Memory) where
     bad-call-changes-nothing bad = go r.answer refl
       where
         go : (a : Answer) → r.answer ≡ a → (r.memory ≡ m) × (r.buffer ≡ buffer_of i)
-        go (Refused n) e = unchanged m i r c.allowed (trace-lent name h m c.trace) n e
-        go (Done did) e = let z : number r ≡ 0 = ap number_in e in absurd (omega arith)
+        go (Err n) e = unchanged m i r c.allowed (trace-lent name h m c.trace) n e
+        go (Ok did) e = let z : number r ≡ 0 = ap number_in e in absurd (omega arith)
 
     -- no answer is longer than 3,174 bytes, so the 4,096 that a good call has are enough
     pub answers-fit : length (bytes_of r) ≤ 3174
@@ -254,14 +254,14 @@ module _ (name : List ℕ) (h : List Made) (m : Memory) where
 
   -- so the first of them is the next start of all
   pub first-starts-next : Trace name h m → 0 < length (shown m).queue.waiting →
-      earliest (λ s. s.start) (shown m).queue.waiting ≡ At (get_or (shown m).queue.waiting 0 empty).start
+      earliest (λ s. s.start) (shown m).queue.waiting ≡ Some (get_or (shown m).queue.waiting 0 empty).start
   first-starts-next t some = earliest-start (shown m).queue.waiting empty (waiting-in-order t).0 some
 
   -- and with none started it is what is due next
   pub first-is-next : Trace name h m → 0 < length (shown m).queue.waiting → (shown m).queue.started ≡ [] →
-      due (shown m).queue ≡ At (get_or (shown m).queue.waiting 0 empty).start
+      due (shown m).queue ≡ Some (get_or (shown m).queue.waiting 0 empty).start
   unfolding due
-  first-is-next t some none = rw none (ap (sooner Never) (first-starts-next t some))
+  first-is-next t some none = rw none (ap (sooner None) (first-starts-next t some))
 
 -- ## Document 02, CR 11
 

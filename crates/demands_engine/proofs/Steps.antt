@@ -13,7 +13,7 @@ use Rattle.rules.specs.HouseNumbers as numbers
 use Rattle.demands.specs.History.{wrote, reply_of}
 use Rattle.rules.specs.Follows.Sound.{Wired}
 use Rattle.memory.specs.Memory.{see}
-use Rattle.engine.specs.declared.Answer.TheVariants.{Refused}
+use Rattle.std.specs.Prelude.{Err}
 use Rattle.engine.specs.Lent.{Lent, answer_of, Answers}
 use Rattle.engine.proofs.Laws.{answers-same, refused-unchanged}
 use Rattle.demands.specs.Told.{first_number, checks, number_of}
@@ -89,7 +89,7 @@ module _ (m : Memory) where
     number-first = number_is ∙ first-number (shown m) (call_of i)
 
     -- a refusal: the memory and the buffer are as they were
-    pub unchanged : Lent m.words m.bytes → (n : Refusal) → r.answer ≡ Refused n → (r.memory ≡ m) × (r.buffer ≡ buffer_of i)
+    pub unchanged : Lent m.words m.bytes → (n : Refusal) → r.answer ≡ Err n → (r.memory ≡ m) × (r.buffer ≡ buffer_of i)
     unchanged l n e =
         let u = refused-unchanged (call_of i) n m.words m.bytes (buffer_of i) r.answer
         r.memory.words r.memory.bytes r.buffer l (promised i r a) e in

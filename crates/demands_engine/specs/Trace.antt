@@ -1,6 +1,6 @@
 -- A trace: what the driver sees of the calls of `engine`, any number of them in any order, each result one that the call's contract
 -- allows. The contracts' own words (`Answers`, `Makes`) stand here as they stand in engine/src/lib.rt.
-use Rattle.std.specs.Prelude.{◌≡◌, List, [], map, ℕ, ◌<◌, length, take, replicate}
+use Rattle.std.specs.Prelude.{◌≡◌, List, [], map, ℕ, ◌<◌, length, take, replicate, Err, Ok}
 use Rattle.rules.specs.Lists.{All}
 use Rattle.rules.specs.Follows.Wires.{Byte}
 use Rattle.rules.specs.State.{Splicer}
@@ -11,8 +11,7 @@ use Rattle.rules.specs.HouseNumbers.{written_by, buffer_after}
 use Rattle.rules.specs.Units.{horizon}
 use Rattle.demands.specs.History.{Reply, refusal, wrote, Event}
 use Rattle.memory.specs.Memory as lent
-use Rattle.engine.specs.declared.Answer.{Answer}
-use Rattle.engine.specs.declared.Answer.TheVariants.{Refused, Done}
+use Rattle.engine.specs.Lent.{Answer}
 use Rattle.engine.specs.Lent.{answer_of, Answers, Makes}
 use Rattle.demands_engine.specs.Device.{Device}
 use Rattle.demands_engine.specs.Device as any
@@ -135,18 +134,18 @@ Run = any.Run device
 
 -- the number of a refusal; 0 stands for a good call
 unfoldable pub number_in : Answer → ℕ
-number_in (Refused n) = house_number n
-number_in (Done did) = 0
+number_in (Err n) = house_number n
+number_in (Ok did) = 0
 
 -- the bytes written: the first of the buffer, as many as the answer says
 unfoldable pub bytes_in : Answer → List ℕ → List ℕ
-bytes_in (Refused n) o = []
-bytes_in (Done did) o = take did.written o
+bytes_in (Err n) o = []
+bytes_in (Ok did) o = take did.written o
 
 -- 02, CR 11, "how many places an acceptance shifts"; a refusal shifts none
 unfoldable pub moved_in : Answer → ℕ
-moved_in (Refused n) = 0
-moved_in (Done did) = did.moved
+moved_in (Err n) = 0
+moved_in (Ok did) = did.moved
 
 abbrev pub number : Result → ℕ
 number r = number_in r.answer
@@ -158,8 +157,8 @@ abbrev pub bytes_of : Result → List ℕ
 bytes_of r = bytes_in r.answer r.buffer
 
 unfoldable pub reply_in : Answer → List ℕ → Reply
-reply_in (Refused n) o = refusal n
-reply_in (Done did) o = wrote (take did.written o)
+reply_in (Err n) o = refusal n
+reply_in (Ok did) o = wrote (take did.written o)
 
 -- a call that was made, as demand 3 takes it: the call, and the answer's bytes or the refusal
 abbrev pub event_of : Made → Event

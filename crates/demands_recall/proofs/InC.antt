@@ -9,14 +9,14 @@ use Words.*
 -- both archives write an answer in the same words
 same-words : (a : Answer) → reply_words (as_reply a) ≡ reply_of a
 unfolding reply_words as_reply reply_of number_of
-same-words (answer.Refused n) = refl
-same-words (answer.Done did) = refl
+same-words (Err n) = refl
+same-words (Ok did) = refl
 
 words-13 : (r : Reply) → is13 (reply_words r) ≡ sides.is13 r
 unfolding reply_words
-words-13 Full = refl
-words-13 (Refused n) = refl
-words-13 (Done did) = refl
+words-13 (Err Full) = refl
+words-13 (Err (Rule n)) = refl
+words-13 (Ok did) = refl
 
 -- 13 of any log, as C sees it: "before all others"
 pub thirteen-of-any : (k : Call) (l e : List ℕ) {w n o : List ℕ} → Tells k l e w n o → is13 w ≡ full l
@@ -45,8 +45,8 @@ number-some NotSixteen = refl
 
 words-good : (a : Answer) → eqb (number_in (reply_of a)) 0 ≡ is_done (as_reply a)
 unfolding reply_of is_done as_reply
-words-good (answer.Refused n) = number-some n
-words-good (answer.Done did) = refl
+words-good (Err n) = number-some n
+words-good (Ok did) = refl
 
 -- ## One call
 

@@ -18,8 +18,8 @@ use Rattle.rules.specs.Calls.{Call, call}
 use Rattle.rules.specs.Follows.Sound.{Wired}
 use Rattle.rules.proofs.Tests.{by}
 use Rattle.rules.proofs.Written.{written_none}
-use Rattle.recall_log.specs.declared.Reply.{Reply}
-use Rattle.recall_log.specs.declared.Reply.TheVariants.{Done}
+use Rattle.std.specs.Prelude.{Ok}
+use Rattle.recall_log.specs.Kept.{Reply}
 use Rattle.recall_log.specs.Log.{kept_calls, log_length, most_calls, longest_record, other_length, full}
 use Rattle.recall_log.specs.Kept.{Its, kept_form, is_good, recorded, reply_of, cleared}
 use Rattle.recall_log.proofs.Appends.{cleared-calls}
@@ -249,11 +249,11 @@ module _ {l n : List ℕ} {r : Reply} (f : Forgets l r n) (h : List Pair) (c : C
 
 -- the card's answer to fresh with "CH1"
 fresh-card : reply_of (rules.fresh (padded card_name)).answer (rules.fresh (padded card_name)).moved
-    ≡ Done (record { consumed = 0; written = 0; moved = 0 })
+    ≡ Ok (record { consumed = 0; written = 0; moved = 0 })
 unfolding rules.fresh card_name reply_of output
 fresh-card = refl
 
 -- both answer fresh alike, where the log has its length
 pub fresh-same : {l n : List ℕ} {r : Reply} → Forgets l r n → length l ≡ log_length
     → r ≡ reply_of (rules.fresh (padded card_name)).answer (rules.fresh (padded card_name)).moved
-fresh-same {l} f h = (forgets-same l f (forgets-all (same_length l h) refl)).0 ∙ sym fresh-card
+fresh-same {l} f h = (forgets-same l f (forgets-all (same_length l h) refl refl)).0 ∙ sym fresh-card

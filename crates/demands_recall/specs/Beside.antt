@@ -1,17 +1,14 @@
 -- Both engines called side by side, each result one that the call's contract allows: the card's from fresh with "CH1", as
 -- demands_engine/specs/Trace
 -- has it, and the second one from its fresh, each call handed the log that the last one left.
-use Rattle.std.specs.Prelude.{List, [], ◌∷◌, map, ℕ}
+use Rattle.std.specs.Prelude.{Ok, Err, List, [], ◌∷◌, map, ℕ}
 use Rattle.rules.specs.Bytes.{padded}
 use Rattle.rules.specs.Card.{card_name}
 use Rattle.rules.specs.Calls.{fresh}
-use Rattle.engine.specs.declared.Answer.{Answer}
-use Rattle.engine.specs.declared.Answer.TheVariants as answer
-use Rattle.engine.specs.Lent.{Answers}
+use Rattle.engine.specs.Lent.{Answer, Answers}
 use Rattle.demands_engine.specs.Trace.{Memory, Input, Typed, call_of, buffer_of, Result, Allowed}
-use Rattle.recall_log.specs.declared.Reply.{Reply}
-use Rattle.recall_log.specs.declared.Reply.TheVariants.{Refused, Done}
-use Rattle.recall_log.specs.Kept.{Its}
+use Rattle.recall_log.specs.declared.Refused.TheVariants.{Rule}
+use Rattle.recall_log.specs.Kept.{Reply, Its}
 use Rattle.recall.specs.Recall.{Remembers, Forgets}
 use Rattle.demands_recall.specs.Sides.{Pair}
 
@@ -54,8 +51,8 @@ pub record Beside (h : List Both) : Type 0 where
 
 -- an answer of the card's engine in the second one's words
 unfoldable pub as_reply : Answer → Reply
-as_reply (answer.Refused n) = Refused n
-as_reply (answer.Done did) = Done did
+as_reply (Err n) = Err (Rule n)
+as_reply (Ok did) = Ok did
 
 abbrev pub pair_of : Both → Pair
 pair_of x =

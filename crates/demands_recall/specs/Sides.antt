@@ -1,11 +1,9 @@
 -- What is compared of two engines that are called side by side.
-use Rattle.std.specs.Prelude.{◌≡◌, Bool, true, false, cond, List, [], ◌∷◌, ◌++◌, ℕ, ◌-◌, eqb, length, replicate}
+use Rattle.std.specs.Prelude.{Ok, Err, ◌≡◌, Bool, true, false, cond, List, [], ◌∷◌, ◌++◌, ℕ, ◌-◌, eqb, length, replicate}
 use Rattle.rules.specs.Lists.{All, put}
 use Rattle.rules.specs.Calls.{Call}
-use Rattle.recall_log.specs.declared.Reply.{Reply}
-use Rattle.recall_log.specs.declared.Reply.TheVariants.{Full, Refused, Done}
 use Rattle.recall_log.specs.Log.{kept_calls, log_length}
-use Rattle.recall_log.specs.Kept.{kept_form, recorded, number_of}
+use Rattle.recall_log.specs.Kept.{Reply, kept_form, recorded, number_of}
 
 -- a call that was made of both: the buffer before it, the card's reply and the buffer after it, and the second one's, with its log
 pub record Pair : Type 0 where
@@ -43,9 +41,8 @@ log_after l (p ∷ h) = log_after p.log h
 
 -- a reply to a good call
 unfoldable pub is_done : Reply → Bool
-is_done Full = false
-is_done (Refused n) = false
-is_done (Done did) = true
+is_done (Err n) = false
+is_done (Ok did) = true
 
 -- the good ones of the calls, by the card's replies, in the form that is kept
 abbrev pub good_ones : List Pair → List Call

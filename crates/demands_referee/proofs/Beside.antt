@@ -15,7 +15,7 @@ use Rattle.rules.proofs.All.{All}
 use Rattle.recording.specs.declared.Entry.{Entry}
 use Rattle.recording.specs.declared.Entry.TheVariants.{Made, Wrote, Cut, Another, End}
 use Rattle.recording.specs.declared.Finding.{Finding}
-use Rattle.recording.specs.declared.Finding.TheVariants.{Longer, Unknown, Differs, None}
+use Rattle.recording.specs.declared.Finding.TheVariants.{Longer, Unknown, Differs}
 use Rattle.recording.specs.Recording.{Item, made, wrote, cut, another, entry_in, entries_by, entries_run, entries}
 use Rattle.recording.specs.Recording.{Bench, start, called, called_by, taken}
 use Rattle.recording.specs.Recording.{begins, is_nothing, judged, unknown_from, first_unknown, before, longest, checked}
@@ -26,6 +26,7 @@ use Rattle.recording.proofs.Refusing.{IsCall, IsPlace, only_calls, only-places, 
 use Rattle.judge.proofs.Going.{bench-same}
 use Rattle.follow.specs.Refereed.{a_call, a_mark, counted, Stand, Found, numbered, called_at, taken_at, begun, followed, refereed}
 use Rattle.demands_referee.specs.Beside.{finding_of, counted_of, known}
+use Rattle.std.specs.Prelude.{None, Option, Some}
 
 -- ## Entry by entry
 
@@ -52,8 +53,8 @@ unfolding taken_at taken
 record-behind n h k i = stand-same _ _ _ _ _ refl (mod-add-mod i (2 ^ 64) n)
 
 -- what is asked decides on both sides: x and j go on, or the call is named; u: what is unknown
-either : (b : Bool) (h : Bench) (k i : ℕ) (x : Found) (j u : Finding) → finding_of x ≡ counted_of (before j u)
-    → finding_of (cond b x (record { kind = a_call; stand = stand h k i })) ≡ counted_of (before (cond b j (Differs h.number)) u)
+either : (b : Bool) (h : Bench) (k i : ℕ) (x : Found) (j u : Option Finding) → finding_of x ≡ counted_of (before j u)
+    → finding_of (cond b x (record { kind = a_call; stand = stand h k i })) ≡ counted_of (before (cond b j (Some (Differs h.number))) u)
 unfolding finding_of counted_of before
 either true h k i x j u e = e
 either false h k i x j u e = refl
@@ -69,31 +70,31 @@ follows (wrote w ∷ es) h k i =
     either (begins w h.due) h k i _ _ _
     (ap (λ g. finding_of (followed g es)) (record-behind (length w) h k i) ∙ follows es (taken (length w) h) k (i + length w))
 follows (cut l ∷ es) h k i = refl
-follows (another l ∷ es) h k i = either (is_nothing h.due) h k i _ None (Unknown i) refl
+follows (another l ∷ es) h k i = either (is_nothing h.due) h k i _ None (Some (Unknown i)) refl
 
 -- ## Numbers that fit
 
-abbrev Small : ℕ → Finding → Type 0
-Small b Longer = Unit {0}
-Small b (Unknown i) = i ≤ b
-Small b (Differs n) = n ≤ b
+abbrev Small : ℕ → Option Finding → Type 0
+Small b (Some Longer) = Unit {0}
+Small b (Some (Unknown i)) = i ≤ b
+Small b (Some (Differs n)) = n ≤ b
 Small b None = Unit {0}
 
-counted-small : (b : ℕ) (f : Finding) → b < 2 ^ 64 → Small b f → counted_of f ≡ f
+counted-small : (b : ℕ) (f : Option Finding) → b < 2 ^ 64 → Small b f → counted_of f ≡ f
 unfolding counted_of
-counted-small b Longer h s = refl
-counted-small b (Unknown i) h s = ap Unknown (mod-eq_of_lt (omega arith))
-counted-small b (Differs n) h s = ap Differs (mod-eq_of_lt (omega arith))
+counted-small b (Some Longer) h s = refl
+counted-small b (Some (Unknown i)) h s = ap (λ (m : ℕ). Some (Unknown m)) (mod-eq_of_lt (omega arith))
+counted-small b (Some (Differs n)) h s = ap (λ (m : ℕ). Some (Differs m)) (mod-eq_of_lt (omega arith))
 counted-small b None h s = refl
 
-small-before : (b : ℕ) (f g : Finding) → Small b f → Small b g → Small b (before f g)
+small-before : (b : ℕ) (f g : Option Finding) → Small b f → Small b g → Small b (before f g)
 unfolding before
-small-before b Longer g s t = tt
-small-before b (Unknown i) g s t = s
-small-before b (Differs n) g s t = s
+small-before b (Some Longer) g s t = tt
+small-before b (Some (Unknown i)) g s t = s
+small-before b (Some (Differs n)) g s t = s
 small-before b None g s t = t
 
-small-or : (t : Bool) (b : ℕ) (f : Finding) (n : ℕ) → Small b f → n ≤ b → Small b (cond t f (Differs n))
+small-or : (t : Bool) (b : ℕ) (f : Option Finding) (n : ℕ) → Small b f → n ≤ b → Small b (cond t f (Some (Differs n)))
 small-or true b f n s h = s
 small-or false b f n s h = h
 
@@ -211,18 +212,18 @@ valid-known (another l ∷ es) a = tt
 
 -- ## The checker and the referee
 
-before-none : (y : Finding) → before y None ≡ y
+before-none : (y : Option Finding) → before y None ≡ y
 unfolding before
-before-none Longer = refl
-before-none (Unknown i) = refl
-before-none (Differs n) = refl
+before-none (Some Longer) = refl
+before-none (Some (Unknown i)) = refl
+before-none (Some (Differs n)) = refl
 before-none None = refl
 
 pub short-fits : (l : List ℕ) → length l ≤ longest → length l < 2 ^ 64
 short-fits l h = omega arith
 
 module _ (l : List ℕ) where
-  abbrev pub finding : Finding
+  abbrev pub finding : Option Finding
   finding = finding_of (refereed ours l)
 
   known-here : first_unknown l ≡ None → known (entries l) ≡ entries l
@@ -244,40 +245,40 @@ module _ (l : List ℕ) where
     none_is e =
         let u = go (judged start (known (entries l))) (first_unknown l) (sym (refereed-is l h) ∙ e) in (sym (judged-is h u) ∙ e, u)
       where
-        go : (j u : Finding) → before j u ≡ None → u ≡ None
+        go : (j u : Option Finding) → before j u ≡ None → u ≡ None
         go None u z = z
-        go Longer u z = absurd (let y : ◌≡◌ {A = ℕ} 0 1 = cc in omega arith)
-        go (Unknown i) u z = absurd (let y : ◌≡◌ {A = ℕ} 0 1 = cc in omega arith)
-        go (Differs n) u z = absurd (let y : ◌≡◌ {A = ℕ} 0 1 = cc in omega arith)
+        go (Some Longer) u z = absurd (let y : ◌≡◌ {A = ℕ} 0 1 = cc in omega arith)
+        go (Some (Unknown i)) u z = absurd (let y : ◌≡◌ {A = ℕ} 0 1 = cc in omega arith)
+        go (Some (Differs n)) u z = absurd (let y : ◌≡◌ {A = ℕ} 0 1 = cc in omega arith)
 
-    pub differs-is : (n : ℕ) → finding ≡ Differs n → judged start (known (entries l)) ≡ Differs n
+    pub differs-is : (n : ℕ) → finding ≡ Some (Differs n) → judged start (known (entries l)) ≡ Some (Differs n)
     unfolding before
     differs-is n e = go (judged start (known (entries l))) (first_unknown l) place (sym (refereed-is l h) ∙ e)
       where
-        go : (j u : Finding) → IsPlace u → before j u ≡ Differs n → j ≡ Differs n
+        go : (j u : Option Finding) → IsPlace u → before j u ≡ Some (Differs n) → j ≡ Some (Differs n)
         go None u p z = absurd (subst IsPlace z p)
-        go Longer u p z = z
-        go (Unknown i) u p z = z
-        go (Differs k) u p z = z
+        go (Some Longer) u p z = z
+        go (Some (Unknown i)) u p z = z
+        go (Some (Differs k)) u p z = z
 
-    pub unknown-is : (i : ℕ) → finding ≡ Unknown i → first_unknown l ≡ Unknown i
+    pub unknown-is : (i : ℕ) → finding ≡ Some (Unknown i) → first_unknown l ≡ Some (Unknown i)
     unfolding before
     unknown-is i e =
         go (judged start (known (entries l))) (first_unknown l) (only_calls start (known (entries l))) (sym (refereed-is l h) ∙ e)
       where
-        go : (j u : Finding) → IsCall j → before j u ≡ Unknown i → u ≡ Unknown i
+        go : (j u : Option Finding) → IsCall j → before j u ≡ Some (Unknown i) → u ≡ Some (Unknown i)
         go None u c z = z
-        go Longer u c z = absurd c
-        go (Unknown k) u c z = absurd c
-        go (Differs k) u c z = absurd (let y : ◌≡◌ {A = ℕ} 0 1 = cc in omega arith)
+        go (Some Longer) u c z = absurd c
+        go (Some (Unknown k)) u c z = absurd c
+        go (Some (Differs k)) u c z = absurd (let y : ◌≡◌ {A = ℕ} 0 1 = cc in omega arith)
 
   -- no recording is too long
-  pub never-longer : finding ≡ Longer → ⊥
+  pub never-longer : finding ≡ Some Longer → ⊥
   unfolding finding_of
   never-longer e =
       let f = refereed ours l in go (eqb f.kind a_call) (eqb f.kind a_mark) f.stand.bench.number f.stand.at e
     where
-      go : (a b : Bool) (n i : ℕ) → cond a (Differs n) (cond b (Unknown i) None) ≡ Longer → ⊥
+      go : (a b : Bool) (n i : ℕ) → cond a (Some (Differs n)) (cond b (Some (Unknown i)) None) ≡ Some Longer → ⊥
       go true b n i z = let y : ◌≡◌ {A = ℕ} 0 1 = cc in omega arith
       go false true n i z = let y : ◌≡◌ {A = ℕ} 0 1 = cc in omega arith
       go false false n i z = let y : ◌≡◌ {A = ℕ} 0 1 = cc in omega arith
@@ -287,11 +288,11 @@ module _ (l : List ℕ) where
   unfolding before
   checked-is h = short-is l h ∙ go (first_unknown l) refl
     where
-      go : (u : Finding) → first_unknown l ≡ u → before u (judged start (entries l)) ≡ before u finding
+      go : (u : Option Finding) → first_unknown l ≡ u → before u (judged start (entries l)) ≡ before u finding
       go None e = sym (judged-is (short-fits l h) e)
-      go Longer e = refl
-      go (Unknown i) e = refl
-      go (Differs n) e = refl
+      go (Some Longer) e = refl
+      go (Some (Unknown i)) e = refl
+      go (Some (Differs n)) e = refl
 
   pub none_both : length l ≤ longest → (finding ≡ None → checked l ≡ None) × (checked l ≡ None → finding ≡ None)
   unfolding before
@@ -300,36 +301,36 @@ module _ (l : List ℕ) where
     λ e. let r = is_read l e tt in judged-is (short-fits l h) r.known ∙ r.found,
   )
 
-  pub checked-differs : (n : ℕ) → checked l ≡ Differs n → finding ≡ Differs n
+  pub checked-differs : (n : ℕ) → checked l ≡ Some (Differs n) → finding ≡ Some (Differs n)
   checked-differs n e = let r = is_read l e tt in judged-is (short-fits l r.short) r.known ∙ r.found
 
-  pub refereed-unknown : (i : ℕ) → length l ≤ longest → finding ≡ Unknown i → checked l ≡ Unknown i
+  pub refereed-unknown : (i : ℕ) → length l ≤ longest → finding ≡ Some (Unknown i) → checked l ≡ Some (Unknown i)
   unfolding before
   refereed-unknown i h e = checked-is h ∙ ap (λ u. before u finding) (unknown-is (short-fits l h) i e)
 
   -- where the checker refuses a mark, the referee tells it too, or a call that differs before it or of which something is due there
   pub record Earlier : Type 0 where
     pub call : ℕ
-    pub differs : finding ≡ Differs call
+    pub differs : finding ≡ Some (Differs call)
 
-  pub checked-unknown : (i : ℕ) → checked l ≡ Unknown i → (finding ≡ Unknown i) ⊎ Earlier
+  pub checked-unknown : (i : ℕ) → checked l ≡ Some (Unknown i) → (finding ≡ Some (Unknown i)) ⊎ Earlier
   unfolding before
   checked-unknown i e = go (judged start (known (entries l))) refl (only_calls start (known (entries l)))
     where
-      is : finding ≡ before (judged start (known (entries l))) (Unknown i)
+      is : finding ≡ before (judged start (known (entries l))) (Some (Unknown i))
       is =
           let u = is-unknown l e in
           refereed-is l (short-fits l u.0) ∙ ap (before (judged start (known (entries l)))) u.1
 
-      go : (j : Finding) → judged start (known (entries l)) ≡ j → IsCall j → (finding ≡ Unknown i) ⊎ Earlier
-      go None z c = inl (is ∙ ap (λ j. before j (Unknown i)) z)
-      go (Differs n) z c = inr (record { call = n; differs = is ∙ ap (λ j. before j (Unknown i)) z })
-      go Longer z c = absurd c
-      go (Unknown k) z c = absurd c
+      go : (j : Option Finding) → judged start (known (entries l)) ≡ j → IsCall j → (finding ≡ Some (Unknown i)) ⊎ Earlier
+      go None z c = inl (is ∙ ap (λ j. before j (Some (Unknown i))) z)
+      go (Some (Differs n)) z c = inr (record { call = n; differs = is ∙ ap (λ j. before j (Some (Unknown i))) z })
+      go (Some Longer) z c = absurd c
+      go (Some (Unknown k)) z c = absurd c
 
   -- ## What a finding says: the checker's theorems, of any length that fits a number
 
-  pub first-that-differs : length l < 2 ^ 64 → (n : ℕ) → finding ≡ Differs n
+  pub first-that-differs : length l < 2 ^ 64 → (n : ℕ) → finding ≡ Some (Differs n)
       → (n ≤ length (calls_in (entries l)))
       × ((i : ℕ) → i < n → wrote_after (entries l) i ≡ due_after (entries l) i)
       × (right (entries l) n ≡ false)

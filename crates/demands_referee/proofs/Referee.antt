@@ -15,7 +15,7 @@ use Rattle.rules.specs.Lists.{All}
 use Rattle.rules.specs.Follows.Wires.{Byte}
 use Rattle.rules.specs.Bytes.{value, value_from}
 use Rattle.recording.specs.declared.Entry.TheVariants.{Cut}
-use Rattle.recording.specs.declared.Finding.TheVariants.{Unknown, Differs, None}
+use Rattle.recording.specs.declared.Finding.TheVariants.{Unknown, Differs}
 use Rattle.recording.specs.Recording.{record_mark, span, entry_in, entries_by, entries_run, entries, start}
 use Rattle.recording.specs.Recording.{first_unknown, before, judged}
 use Rattle.recording.specs.Recorded.{recorded_up_to, recorded, Behind, ends_cut}
@@ -34,6 +34,7 @@ use Rattle.follow.proofs.Saying.{end-told, end-cut, end-due, end-met}
 use Rattle.demands_referee.specs.Beside.{finding_of, counted_of}
 use Rattle.demands_referee.specs.Fed.{Referee, Fresh, finally, Held, Fed, over, piece}
 use Rattle.demands_referee.proofs.Beside.{ours, refereed-counted, known-all}
+use Rattle.std.specs.Prelude.{None, Some}
 
 -- ## The end, by the stage alone
 
@@ -216,8 +217,8 @@ unfolding finding_of
 told-some k g h z e = go (eqb k a_call) refl (eqb k a_mark) refl
   where
     go : (t : Bool) → eqb k a_call ≡ t → (i : Bool) → eqb k a_mark ≡ i → ⊥
-    go true p i q = let y : Differs g.bench.number ≡ None = rw p at e in let x : ◌≡◌ {A = ℕ} 0 1 = cc in omega arith
-    go false p true q = let y : Unknown g.at ≡ None = rw (p, q) at e in let x : ◌≡◌ {A = ℕ} 0 1 = cc in omega arith
+    go true p i q = let y : Some (Differs g.bench.number) ≡ None = rw p at e in let x : ◌≡◌ {A = ℕ} 0 1 = cc in omega arith
+    go false p true q = let y : Some (Unknown g.at) ≡ None = rw (p, q) at e in let x : ◌≡◌ {A = ℕ} 0 1 = cc in omega arith
     go false p false q = omega (arith, eqb-false k a_call p, eqb-false k a_mark q, z)
 
 -- live: while the bytes come, in whatever pieces, nothing is ever told

@@ -11,8 +11,8 @@ use Rattle.rules.specs.Rolling.{Rolled, Course, refuses, brings, instant_course,
 use Rattle.rules.specs.Rolling.{RollingCall, roll}
 use Rattle.rules.specs.Follows.Sequences.{RollWired}
 use Rattle.memory.specs.Memory.{see}
-use Rattle.engine.specs.declared.Answer.{Answer}
-use Rattle.engine.specs.declared.Answer.TheVariants.{Refused}
+use Rattle.engine.specs.Lent.{Answer}
+use Rattle.std.specs.Prelude.{Err}
 use Rattle.rolling.specs.LentRolling.{Rolls}
 use Rattle.rolling.proofs.Ruled.{Ahead, instant-ahead, reading-ahead}
 use Rattle.rolling.proofs.Calls.{lent-core, lent-steady, refused-rolls, brought-rolls, fresh-rolls}
@@ -86,7 +86,7 @@ record Found (m : Memory) (k : RollingCall) (e : List ℕ) : Type 0 where
 
 module _ (m : Memory) (l : LentAt m) (k : RollingCall) (w : RollWired k) (x : ℕ) (e : List ℕ) where
   found : (c : Course) → roll k (shown m) ≡ rolls c x (shown m) → Ahead c (shown m).splicer.clock (length e) → Found m k e
-  found (refuses n) f a = record { answer = Refused n; memory = m; buffer = e; rolls = refused-rolls l (roll k (shown m)) n x f }
+  found (refuses n) f a = record { answer = Err n; memory = m; buffer = e; rolls = refused-rolls l (roll k (shown m)) n x f }
   found (brings until) f a =
       let g = engine-runs.answerable m.core (lent-core l) (engine.a_move until e) a.2 in
       let r = g.result in

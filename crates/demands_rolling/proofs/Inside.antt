@@ -21,8 +21,8 @@ use Rattle.rules.specs.Follows.Sequences.{as_moves, RollWired, RollReached, Time
 use Rattle.rules.proofs.All.{at_all}
 use Rattle.demands.proofs.Refusals.{a-number}
 use Rattle.memory.specs.Memory.{see}
-use Rattle.engine.specs.declared.Answer.{Answer}
-use Rattle.engine.specs.declared.Answer.TheVariants.{Refused}
+use Rattle.engine.specs.Lent.{Answer}
+use Rattle.std.specs.Prelude.{Err}
 use Rattle.engine.specs.Lent.{answer_of, Answers}
 use Rattle.rolling.specs.LentRolling.{counter_of, last_of, rolling, Rolls}
 use Rattle.rolling.proofs.Ruled.{Ahead, move_same, instant-ahead, reading-ahead, reached-roll}
@@ -150,12 +150,12 @@ module _ (m : Memory) (i : RollInput) (r : RollSeen) (l : LentAt m) (p : Promise
       → Ahead c (shown m).splicer.clock (length e) → Stepped c (time_made e r)
   unfolding rolls answer_of ticked engine.number_in
   course-step (refuses n) x f g a =
-      let y : answer_in r.reply ≡ Refused n = p.answers.answer ∙ ap (λ z. answer_of z.called.answer z.called.moved) g in
+      let y : answer_in r.reply ≡ Err n = p.answers.answer ∙ ap (λ z. answer_of z.called.answer z.called.moved) g in
       let u = refused-unchanged k n m.core.words m.core.bytes m.counter e (answer_in r.reply) r.words r.bytes
       r.counter r.buffer l p y in
       let none_made : time_made e r ≡ [] =
       ap (λ b. cond b (one-move (shown (left r)).splicer.clock) [])
-      (ap (λ z. eqb z 0) (number_is (Refused n) f y) ∙ ne_eqb (house_number n) 0 (λ q. omega (arith, a-number n))) in
+      (ap (λ z. eqb z 0) (number_is (Err n) f y) ∙ ne_eqb (house_number n) 0 (λ q. omega (arith, a-number n))) in
       subst (Stepped (refuses n)) (sym none_made) (memory-same (left r).core m.core u.0 u.1, refl)
   course-step (brings until) x f g a =
       let s = (shown m).splicer in

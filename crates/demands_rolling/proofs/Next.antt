@@ -21,8 +21,8 @@ use Rattle.rules.specs.Follows.ReadBack.{is_splice}
 use Rattle.rules.specs.Records.{Record}
 use Rattle.rules.specs.Follows.ReadBack.{records_in, records_up_to}
 use Rattle.memory.specs.Memory.{see}
-use Rattle.engine.specs.declared.Answer.{Answer}
-use Rattle.engine.specs.declared.Answer.TheVariants.{Refused, Done}
+use Rattle.engine.specs.Lent.{Answer}
+use Rattle.std.specs.Prelude.{Err, Ok}
 use Rattle.rolling.specs.Ruled.{roll_checks}
 use Rattle.rolling.proofs.Laws.{refused-unchanged}
 use Rattle.rolling.proofs.Laws as laws
@@ -80,11 +80,11 @@ module _ (name : List ℕ) (h : List Made) (m : Memory) (i : RollInput) (r : Rol
   unchanged bad = go (answer_in r.reply) refl
     where
       go : (a : Answer) → answer_in r.reply ≡ a → (left r ≡ m) × (r.buffer ≡ roll_buffer_of i)
-      go (Refused n) e =
+      go (Err n) e =
           let u = refused-unchanged (roll_call_of i) n m.core.words m.core.bytes m.counter (roll_buffer_of i) (answer_in r.reply)
           r.words r.bytes r.counter r.buffer here holds e in
           ((λ j. record { core = memory-same (left r).core m.core u.0 u.1 j; counter = u.2 j }), u.3)
-      go (Done did) e =
+      go (Ok did) e =
           let z : number r ≡ 0 = number-inside replies ∙ ap engine.number_in e in
           absurd (omega arith)
 
@@ -104,13 +104,13 @@ module _ (name : List ℕ) (h : List Made) (m : Memory) (i : RollInput) (r : Rol
   refused-silent bad = go (answer_in r.reply) refl
     where
       go : (a : Answer) → answer_in r.reply ≡ a → Silent m r
-      go (Refused n) e =
+      go (Err n) e =
           record {
             bytes = bytes_inside replies ∙ ap (λ a. engine.bytes_in a r.buffer) e;
             moved = moved_inside replies ∙ ap engine.moved_in e;
             left = (unchanged (omega (arith, eqb-false (number r) 0 bad))).0;
           }
-      go (Done did) e =
+      go (Ok did) e =
           let z : number r ≡ 0 = number-inside replies ∙ ap engine.number_in e in
           let y : true ≡ false = sym (ap (λ n. eqb n 0) z) ∙ bad in
           let x : ◌≡◌ {A = ℕ} 0 1 = cc in

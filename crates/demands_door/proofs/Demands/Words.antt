@@ -8,7 +8,6 @@ pub use native.Mathlib.Nat.{le_trans}
 pub use lib.Dec.{eqb}
 pub use lib.ListN.{length, take, get_or, replicate}
 pub use Rattle.rules.specs.declared.Request.{Request}
-pub use Rattle.rules.specs.declared.When.TheVariants.{At}
 pub use Rattle.rules.specs.Lists.{All, some, count}
 pub use Rattle.rules.specs.Follows.Wires.{Byte}
 pub use Rattle.rules.specs.Bytes.{has_zero}
@@ -65,3 +64,4 @@ pub use Rattle.rows.proofs.Laws.{page-filled}
 pub use Rattle.rules.proofs.Sound.{reached-sound}
 pub use Rattle.demands_engine.proofs.Course.{trace-lent}
 pub use Rattle.demands_door.proofs.Course.{answerable, runs, trace-more, trace-point, trace-same}
+pub use Rattle.std.specs.Prelude.{Some}

@@ -9,7 +9,6 @@ pub use native.Mathlib.Nat.{le_trans}
 pub use lib.Dec.{eqb}
 pub use lib.ListN.{length, take, get_or, replicate}
 pub use Rattle.rules.specs.declared.Request.{Request}
-pub use Rattle.rules.specs.declared.When.TheVariants.{At, Never}
 pub use Rattle.rules.specs.Lists.{All, some, count}
 pub use Rattle.rules.specs.Follows.Wires.{Byte}
 pub use Rattle.rules.specs.Bytes.{has_zero}
@@ -29,8 +28,8 @@ pub use Rattle.rules.proofs.All.{all-into}
 pub use Rattle.rules.proofs.Sound.{reached-sound}
 pub use Rattle.rules.proofs.Tick.{earliest-start}
 pub use Rattle.demands.specs.History.{Event, starts_of, ends_of, history, own_answer, others_of, waiting_count, book, clock_after}
-pub use Rattle.engine.specs.declared.Answer.{Answer}
-pub use Rattle.engine.specs.declared.Answer.TheVariants.{Refused, Done}
+pub use Rattle.engine.specs.Lent.{Answer}
+pub use Rattle.std.specs.Prelude.{Err, Ok}
 pub use Rattle.places.specs.Places.{round, next}
 pub use Rattle.memory.specs.Memory.{see, places_from, counts_of, kept_bytes}
 unfoldable pub use Rattle.memory.specs.Memory.{tallied}
@@ -84,3 +83,4 @@ pub use Rattle.demands_engine.proofs.Kept.{close-low, forgotten}
 pub use Rattle.demands_engine.proofs.Answerable.{answerable, runs}
 pub use Rattle.demands_engine.proofs.Moved.{moved-is, fresh-none, last_code, others-stay}
 pub use Rattle.demands_engine.proofs.Cued.{memory-stays}
+pub use Rattle.std.specs.Prelude.{None, Some}

@@ -15,14 +15,13 @@ unfoldable pub use Rattle.rules.specs.HouseNumbers.{house_number}
 pub use Rattle.rules.specs.Follows.Sound.{Wired}
 pub use Rattle.rules.proofs.Tests.{by}
 pub use Rattle.memory.specs.Memory.{shown}
-pub use Rattle.engine.specs.declared.Answer.{Answer}
-pub use Rattle.engine.specs.declared.Answer.TheVariants as answer
+pub use Rattle.engine.specs.Lent.{Answer}
 pub use Rattle.door.specs.Door.{Input, an_open, a_close, a_message, a_tick, a_cue, Typed, call_of, buffer_of, Allowed}
 unfoldable pub use Rattle.door.specs.Door.{reply_of}
-pub use Rattle.recall_log.specs.declared.Reply.{Reply}
-pub use Rattle.recall_log.specs.declared.Reply.TheVariants.{Full, Refused, Done}
+pub use Rattle.std.specs.Prelude.{Ok, Err}
+pub use Rattle.recall_log.specs.declared.Refused.TheVariants.{Full, Rule}
 pub use Rattle.recall_log.specs.Log.{kept_calls, log_length, other_length, full}
-pub use Rattle.recall_log.specs.Kept.{Its, kept_form}
+pub use Rattle.recall_log.specs.Kept.{Reply, Its, kept_form}
 unfoldable pub use Rattle.recall_log.specs.Kept.{number_of}
 pub use Rattle.recall.specs.Recall.{spent, Remembers}
 unfoldable pub use Rattle.recall.specs.Recall.{begun}

@@ -9,7 +9,6 @@ pub use native.Mathlib.Nat.{le_trans}
 pub use lib.Dec.{eqb}
 pub use lib.ListN.{length, take, get_or, replicate}
 pub use Rattle.rules.specs.declared.Request.{Request}
-pub use Rattle.rules.specs.declared.When.TheVariants.{At}
 pub use Rattle.rules.specs.Lists.{All, some, count}
 pub use Rattle.rules.specs.Follows.Wires.{Byte}
 pub use Rattle.rules.specs.Bytes.{has_zero}
@@ -75,3 +74,4 @@ pub use Rattle.demands_rolling.proofs.Inside.{fresh-moved, fresh-counter, known_
 pub use Rattle.demands_rolling.proofs.Course.{answerable, runs, trace-more, trace-point, trace-same}
 pub use Rattle.demands_rolling.proofs.Next.{as-ruled, number-first, unchanged, Next, silent, calls-of, next, bytes-are, moved-are}
 pub use Rattle.demands_rolling.proofs.Next.{reply-are, within_more, none-ends, none-outs, none-long, none-coded, none-played}
+pub use Rattle.std.specs.Prelude.{Some}
