@@ -313,14 +313,14 @@ frames0() {
     abort="door::splicer_7_message engine::message answers::answer answers::answer_read requests::answer_abort ends::end_started"
     evict="door::splicer_7_message engine::message answers::answer answers::answer_read requests::answer_splice"
     evict="$evict requests::accept requests::make_way"
-    below="memory::load places::load places::read_at places::read_row"
+    below='memory::load places::View::load places::View::row places::read_row'
     echo '| Way, at -O0 | Function | Frame | Times |'
     echo '|---|---|---|---|'
-    way 'the due search below run' instants::next_due memory::least_end places::least_end places::end_at
+    way 'the due search below run' instants::next_due memory::least_end places::View::least_end places::View::end_at
     # shellcheck disable=SC2086
-    way 'an abort with 20 followers' $abort ends::dismiss 'ends::walk*21' $below
+    way 'an abort with 20 followers' $abort ends::dismiss ends::walk $below
     # shellcheck disable=SC2086
-    way 'a Splice_Request evicts one with 19' $evict ends::end_waiting ends::dismiss 'ends::walk*20' $below
+    way 'a Splice_Request evicts one with 19' $evict ends::end_waiting ends::dismiss ends::walk $below
 }
 
 # code FILE MEMBER: bytes of machine code in the sections .text of an archive's members whose name has MEMBER in it

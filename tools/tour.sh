@@ -14,7 +14,7 @@ The law: rules cases
 The core, from the bottom up: units reply writing reading places memory ends instants checks requests answers cues relay engine
     streams rows feed
 Doors, for C: door door_rolling door_bench door_c door_rolling_c door_bench_c
-Programs: card checker referee remember
+Programs: standard_streams card checker referee remember
 The rolling card: rolling
 The second engine: recall_rules recall_rows recall_ends recall_instants recall_requests recall_answers recall_log recall_pass recall
 The bench: recording judge follow

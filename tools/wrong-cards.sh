@@ -1,8 +1,8 @@
 #!/bin/sh
-# wrong-cards.sh: what no promise of the card program can say (which bytes its reads and writes move, src/stdio.rt) is seen by runs, and so
-# is a wrong loop, which its promise refuses. Each edit of crates/card/wrong-runs makes a wrong program of it, built here WITHOUT proof, of
-# the module that `rt try` compiles; the run with input in pieces (model pieces) must notice it, and must pass the program of the source as
-# it stands, built in the same way.
+# wrong-cards.sh: what no promise of the card program can say (which bytes its reads and writes move: standard_streams, src/stdio.rt) is
+# seen by runs, and so is a wrong loop, which its promise refuses. Each edit of crates/card/wrong-runs makes a wrong program of it, built
+# here WITHOUT proof, of the module that `rt try` compiles; the run with input in pieces (model pieces) must notice it, and must pass the
+# program of the source as it stands, built in the same way.
 # Needs target/model/release/model (tools/compare.sh builds it). The last line is 'N passed, M failed'.
 set -eu
 . "$(dirname "$0")/words.sh"
