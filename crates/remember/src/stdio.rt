@@ -1,5 +1,5 @@
-// The program's reads. No contract can say which bytes a stream gives, so what is trusted of them is this file and standard_streams; what is
-// made of their answers is promised by the functions that call these.
+// The program's reads. No contract can say which bytes a stream gives, so what is trusted of them is this file and standard_streams; what
+// is made of their answers is promised by the functions that call these.
 ghost use Rattle.std.specs.Prelude.{◌≡◌, ◌≤◌, length};
 ghost use Rattle.remember.specs.Remembered.{Filled};
 
