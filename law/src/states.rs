@@ -183,7 +183,11 @@ pub fn recordings(law: &mut Law, dir: &str) -> Got<i32> {
         law.machine.clear();
         let bytes = std::fs::read(format!("{dir}/{name}")).map_err(|e| format!("{name}: {e}"))?;
         let found = law.value("recording.Recording.checked", vec![value::bytes(bytes)])?;
-        let (kind, at) = made(law, &found)?;
+        // an Option of a finding
+        let (kind, at) = match made(law, &found)? {
+            (some, of) if some == "Some" => made(law, &of[0])?,
+            none => none,
+        };
         let house = law.value("recording.Recording.house_number", vec![found])?;
         let place = at.first().map(number).transpose()?.map_or(String::new(), |n| format!(" {n}"));
         match kind.as_str() {
