@@ -17,7 +17,7 @@ ghost use Rattle.rules.specs.Recent.{most_kept, unused, recent_at, recent};
 ghost use Rattle.rules.specs.Answers.{is_past, latest};
 ghost use Rattle.rules.specs.Hardware.{longest_hardware, length_in, structure_in};
 ghost use Rattle.rules.specs.Instants.{on_air};
-ghost use Rattle.places.specs.Places.{lot, Narrow, key_test, starts_from, round, flagged, unflagged, Unflagged};
+ghost use Rattle.places.specs.Places.{capacity, Ring, lot, Narrow, key_test, starts_from, round, flagged, unflagged, Unflagged};
 ghost use Rattle.memory.specs.declared.Which.TheVariants.{Waiting, Started};
 ghost use Rattle.memory.specs.Memory.{slot_of, ring_of, lot_of, first_link, from_of, to_of, words, places_of, word_of, link_in};
 ghost use Rattle.memory.specs.Memory.{sessions, see, Form, Now, timed, silenced, linked, relisted, recalling, onward, nothing_shown};
@@ -157,6 +157,7 @@ fn view(m: &[u64], which: Which) -> View<'_>
     ensures is { lot result.q.now result.ring_end result.n ≡ lot_of which m.now }
     ensures n { result.n ≡ length (sessions which m.now) }
     ensures ring_end { result.ring_end ≡ ring_of which m.now }
+    ensures ring { Ring (capacity result.q.now) result.ring_end }
 {
     let n = count(m, which);
     let ring_end = ring_end(m, which);

@@ -1,7 +1,6 @@
 -- The sessions that lent words hold, what is asked of the words, and what a search looks for.
 use Rattle.std.specs.Prelude.{◌≡◌, List, [], ◌∷◌, ◌++◌, Bool, not, ℕ, zero, suc, ◌+◌, ◌-◌, ◌*◌, ◌/◌, ◌%◌, ◌≤◌, ◌<◌, eqb, leb, ltb, length}
 use Rattle.std.specs.Prelude.{take, drop, set, get_or, replicate}
-use Rattle.std.specs.Coded.{×_prop, le_prop, Coded-set, coded_ℕ}
 use Rattle.rules.specs.declared.Session.{Session}
 use Rattle.rules.specs.Lists.{some, omit, place}
 use Rattle.rules.specs.State.{empty, is, follows, starts_at}
@@ -83,11 +82,6 @@ turned e l = drop e l ++ take e l
 abbrev pub Ring : (k e : ℕ) → Type 0
 Ring k zero = k ≤ round
 Ring k (suc e) = (k ≡ round) × (suc e < round)
-
--- as a type's invariant it has one proof
-pub Ring-prop : (k e : ℕ) → IsProp (Ring k e)
-Ring-prop k zero = le_prop
-Ring-prop k (suc e) = ×_prop (Coded-set coded_ℕ k round) le_prop
 
 -- the next place
 abbrev pub next : ℕ → ℕ

@@ -10,7 +10,7 @@ ghost use Rattle.rules.specs.Lists.{omit, place, insert_at, remove_at};
 ghost use Rattle.rules.specs.State.{empty, of};
 ghost use Rattle.rules.specs.Follows.Wires.{Sorted};
 ghost use Rattle.rules.specs.Instants.{on_air};
-ghost use Rattle.places.specs.Places.{width, capacity, Row, places, spare, round, turned, Ring, Ring-prop, next, lot, used, moved};
+ghost use Rattle.places.specs.Places.{width, capacity, Row, places, spare, round, turned, Ring, next, lot, used, moved};
 ghost use Rattle.places.specs.Places.{session_of, Narrow, Good, Made, key_test, starts_from, least_end, flagged, unflagged, Unflagged};
 
 use rules::{Ninths, Session};
@@ -48,14 +48,14 @@ pub enum Key {
     Follows(u64, u64),
 }
 
-// The n sessions that lent words hold, to read: those used of a ring of places that ends before the place `ring_end`.
+// The n sessions that lent words hold, to read: those used of the places that end before the place `ring_end`. What goes round asks besides
+// that they are a ring, which places that never come round need not be.
 #[derive(Clone, Copy)]
 pub struct View<'a> {
     pub q: &'a [u64],
     pub ring_end: usize,
     pub n: usize,
     pub ghost good: { Good (lot q.now ring_end n) },
-    pub ghost ring: { Ring (capacity q.now) ring_end } by { Ring-prop (capacity q.now) ring_end },
 }
 
 // The session in the words from b on, the first of a place.
@@ -227,7 +227,8 @@ trait Goes {
 
     // The session `at`, which still stands where it stood in u.
     fn goes(&self, v: View<'_>, at: usize) -> bool
-        requires { at < v.n }
+        requires ring { Ring (capacity v.q.now) v.ring_end }
+        requires at_lt_n { at < v.n }
         ensures { (u : List Session) → fits self.now u → at < length u
             → get_or (used (lot v.entry.q.now v.entry.ring_end v.entry.n)) at empty ≡ get_or u at empty
             → result ≡ gone self.now u (get_or u at empty) };
@@ -324,7 +325,8 @@ pub fn omit_flagged(
 impl View<'_> {
     // The first word of the session `at`.
     fn row(self, at: usize) -> usize
-        requires { at < self.n }
+        requires ring { Ring (capacity self.q.now) self.ring_end }
+        requires at_lt_n { at < self.n }
         ensures row { Row result self.entry.q.now }
         ensures is { session_of (λ k. get_or self.entry.q.now (result + k) 0)
             ≡ get_or (used (lot self.entry.q.now self.entry.ring_end self.entry.n)) at empty }
@@ -345,6 +347,7 @@ impl View<'_> {
 
     // The session `at`.
     pub fn load(self, at: usize) -> Session
+        requires ring { Ring (capacity self.q.now) self.ring_end }
         requires at_lt_n { at < self.n }
         ensures is { result ≡ get_or (used (lot self.entry.q.now self.entry.ring_end self.entry.n)) at empty }
         ensures narrow { Narrow result }
@@ -356,6 +359,7 @@ impl View<'_> {
 
     // The connection of the session `at`.
     pub fn conn_at(self, at: usize) -> u64
+        requires ring { Ring (capacity self.q.now) self.ring_end }
         requires at_lt_n { at < self.n }
         ensures { result ≡ (get_or (used (lot self.entry.q.now self.entry.ring_end self.entry.n)) at empty).conn }
     {
@@ -364,6 +368,7 @@ impl View<'_> {
 
     // The number of the session `at`.
     pub fn id_at(self, at: usize) -> u64
+        requires ring { Ring (capacity self.q.now) self.ring_end }
         requires at_lt_n { at < self.n }
         ensures { result ≡ (get_or (used (lot self.entry.q.now self.entry.ring_end self.entry.n)) at empty).id }
     {
@@ -372,6 +377,7 @@ impl View<'_> {
 
     // The start of the session `at`.
     pub fn start_at(self, at: usize) -> Ninths
+        requires ring { Ring (capacity self.q.now) self.ring_end }
         requires at_lt_n { at < self.n }
         ensures { result ≡ (get_or (used (lot self.entry.q.now self.entry.ring_end self.entry.n)) at empty).start }
     {
@@ -398,6 +404,7 @@ impl View<'_> {
 
     // The place of the first that the key looks for, or n.
     pub fn find(self, key: Key) -> usize
+        requires ring { Ring (capacity self.q.now) self.ring_end }
         ensures { result ≡ place (key_test key) (used (lot self.entry.q.now self.entry.ring_end self.entry.n)) }
     {
         // b goes along with `at`: `row(at)` at each turn takes one instruction more a place, 757 for 697 at a start that fails over 64.
@@ -414,6 +421,7 @@ impl View<'_> {
     // The place of the first that starts at t or later, or n, of sessions in order of start. Halved by hand: `partition_point` takes a
     // slice, and a ring of rows is none.
     pub fn find_from(self, t: Ninths) -> usize
+        requires ring { Ring (capacity self.q.now) self.ring_end }
         requires sorted { Sorted (used (lot self.q.now self.ring_end self.n)) }
         ensures { result ≡ place (starts_from t.0) (used (lot self.entry.q.now self.entry.ring_end self.entry.n)) }
     {

@@ -10,7 +10,7 @@ pub overflow_sub-b : goal.overflow_sub-b
 overflow_sub-b c = let v = c.args.self in used-fits v.q.now v.ring_end v.n v.good
 
 pub overflow_add-b : goal.overflow_add-b
-overflow_add-b c = let v = c.args.self in omega (arith, ring-small (capacity v.q.now) v.ring_end v.ring)
+overflow_add-b c = let v = c.args.self in omega (arith, ring-small (capacity v.q.now) v.ring_end c.requires.ring)
 
 pub loop-at-init : goal.loop-at-init
 loop-at-init c = let v = c.args.self in (sought-none _ (lot v.q.now v.ring_end v.n), omega arith)
@@ -19,13 +19,13 @@ pub matches_row-requires : goal.matches_row-requires
 matches_row-requires c =
     let l = c.loop-at in
     let v = c.args.self in
-    slot_row v.q.now v.ring_end v.n l.at v.good (omega arith) l.b v.ring l.invariant.1
+    slot_row v.q.now v.ring_end v.n l.at v.good (omega arith) l.b c.requires.ring l.invariant.1
 
 pub returns-then-matches_row : goal.returns-then-matches_row
 returns-then-matches_row c =
     let l = c.loop-at in
     let v = c.args.self in
-    let x = slot-place v.q.now v.ring_end v.n l.at v.good (omega arith) l.b v.ring l.invariant.1 in
+    let x = slot-place v.q.now v.ring_end v.n l.at v.good (omega arith) l.b c.requires.ring l.invariant.1 in
     sought-hit _ (lot v.q.now v.ring_end v.n) l.at empty v.good (omega arith)
     (sym (c.matches_row.ensures ∙ ap (key_test c.args.key) x) ∙ c.if-matches_row.true) l.invariant.0
 
@@ -33,7 +33,7 @@ pub loop-at-preserved : goal.loop-at-preserved
 loop-at-preserved c =
     let l = c.loop-at in
     let v = c.args.self in
-    let x = slot-place v.q.now v.ring_end v.n l.at v.good (omega arith) l.b v.ring l.invariant.1 in (
+    let x = slot-place v.q.now v.ring_end v.n l.at v.good (omega arith) l.b c.requires.ring l.invariant.1 in (
       sought-more _ (lot v.q.now v.ring_end v.n) l.at empty v.good (omega arith)
           (sym (c.matches_row.ensures ∙ ap (key_test c.args.key) x) ∙ c.if-matches_row.false) l.invariant.0,
       omega (arith, l.invariant.1),

@@ -12,12 +12,12 @@ overflow_sub-result c = used-fits c.args.self.q.now c.args.self.ring_end c.args.
 pub overflow_add-result-2 : goal.overflow_add-result-2
 overflow_add-result-2 c = omega (
   arith,
-  ring-small (capacity c.args.self.q.now) c.args.self.ring_end c.args.self.ring,
-  slot-within c.args.self.q.now c.args.self.ring_end c.args.self.n c.args.at c.args.self.good c.requires,
+  ring-small (capacity c.args.self.q.now) c.args.self.ring_end c.requires.ring,
+  slot-within c.args.self.q.now c.args.self.ring_end c.args.self.n c.args.at c.args.self.good c.requires.at_lt_n,
 )
 
 pub returns : goal.returns
 returns c = record {
-  row = slot_row c.args.self.q.now c.args.self.ring_end c.args.self.n c.args.at c.args.self.good c.requires _ c.args.self.ring refl;
-  is = slot-word c.args.self.q.now c.args.self.ring_end c.args.self.n c.args.at c.args.self.good c.requires _ c.args.self.ring refl;
+  row = slot_row c.args.self.q.now c.args.self.ring_end c.args.self.n c.args.at c.args.self.good c.requires.at_lt_n _ c.requires.ring refl;
+  is = slot-word c.args.self.q.now c.args.self.ring_end c.args.self.n c.args.at c.args.self.good c.requires.at_lt_n _ c.requires.ring refl;
 }
