@@ -7,7 +7,7 @@ use Prim.Native.Nat.{ℕ, zero, suc, ◌+◌, ◌-◌, ◌≤◌, ◌<◌}
 use native.Mathlib.Omega.{arith}
 use native.Mathlib.Numerals.{add-one}
 use lib.Dec.{eqb, ltb}
-use lib.ListN.{length, take, drop, get_or, set, replicate}
+use lib.ListN.{length, take, drop, get_or, set, replicate, take-append-drop, drop_of_length-le}
 use lib.Seq.{drop-cons, take-suc, take-suc-set, drop-set-lt, append_snoc}
 use borrow.Author.Tests.{eqb-true, ltb-true, ltb-false}
 use Rattle.rules.specs.declared.Session.{Session}
@@ -179,7 +179,7 @@ module _ (c x : ℕ) (w : List Session) (o : Ordered w) (h : length w ≤ 64) wh
   pub flags-own : All (λ s. of c s ≡ true) (keep (flagged flags w) w)
   flags-own = rw flags-gone (followed c x w).own
 
--- ## One turn of `walk`
+-- ## The turns of `walk`
 
 module _ (c x : ℕ) (w : List Session) (f : List ℕ) (i : ℕ) (h : i < length w) (k : i < length f) where
   pub walk-on : (y : ℕ) → y ≡ (get_or w i empty).id → follows c x (get_or w i empty) ≡ true →
@@ -201,6 +201,12 @@ module _ (c x : ℕ) (w : List Session) (f : List ℕ) (i : ℕ) (h : i < length
   walk-by e =
       rw (add-one i, take-suc f i 0 k, drop-cons w i empty h, drop-cons f i 0 k, e)
       (append_snoc (take i f) (get_or f i 0) (flagging c x (drop (suc i) w) (drop (suc i) f)))
+
+pub walk-out : (c x : ℕ) (w : List Session) (f : List ℕ) (i : ℕ) → length w ≤ i → f ≡ take i f ++ flagging c x (drop i w) (drop i f)
+walk-out c x w f i h = rw (drop_of_length-le w {i = i} h) (sym (take-append-drop i f))
+
+pub last_out : (c x : ℕ) (w : List Session) (i e : ℕ) → length w ≤ i → e ≡ behind_last c x i (drop i w) e
+last_out c x w i e h = rw (drop_of_length-le w {i = i} h) refl
 
 -- no flag stands behind the last
 record Behind (f : List ℕ) (r i n e : ℕ) : Type 0 where

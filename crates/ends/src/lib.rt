@@ -247,26 +247,29 @@ fn is_behind(x: Session, conn: u64, id: u64) -> bool
     conn == x.conn && id == x.prior
 }
 
-// The waiting sessions that reach the number link by link: each that does gets the flag 1, and from there the walk goes on behind its own
-// number. The place behind the last of them, or 0 where there is none: of so many flags the first to the last are looked at. The flags are
-// numbers, as `flagged` and `Unflagged` of places read them; no Option: `behind_last` is a number.
-fn walk(m: &[u64; WORDS], conn: u64, id: u64, flags: &mut [u8; 64]) -> usize
+// The waiting sessions from the place i on that reach the number link by link: each that does gets the flag 1, and from there the walk goes
+// on behind its number. The place behind the last of them, or `end` where there is none. A recursion and no `for`: document 01 names it.
+// The flags are numbers, as `flagged` and `Unflagged` of places read them; no Option: `behind_last` is a number.
+fn walk(m: &[u64; WORDS], conn: u64, id: u64, i: usize, end: usize, flags: &mut [u8; 64]) -> usize
     requires form { Form m.now }
     requires flags_len { length flags.old ≡ 64 }
-    ensures marks { flags.new ≡ flagging conn id (see m.now).queue.waiting flags.old }
-    ensures last { result ≡ behind_last conn id 0 (see m.now).queue.waiting 0 }
+    requires i_in_bounds { i ≤ length (see m.now).queue.waiting }
+    ensures marks { flags.new ≡ take i flags.old
+        ++ flagging conn id (drop i (see m.now).queue.waiting) (drop i flags.old) }
+    ensures last { result ≡ behind_last conn id i (drop i (see m.now).queue.waiting) end }
 {
-    let mut sought = id;
-    let mut end = 0;
-    for i in 0..memory::count(m, Which::Waiting) {
+    if i < memory::count(m, Which::Waiting) {
         let x = memory::load(m, Which::Waiting, i);
-        if is_behind(x, conn, sought) {
+        let next = x.id;
+        if is_behind(x, conn, id) {
             flags[i] = 1;
-            sought = x.id;
-            end = i + 1;
+            walk(m, conn, next, i + 1, i + 1, flags)
+        } else {
+            walk(m, conn, id, i + 1, end, flags)
         }
+    } else {
+        end
     }
-    end
 }
 
 // The waiting sessions whose flag is 1, all of them the chain's, end with the result; the others close up.
@@ -314,7 +317,7 @@ fn dismiss(m: &mut [u64; WORDS], res: u16, conn: u64, id: u64, out: &mut [u8], l
     let i = memory::find(&*m, Which::Waiting, Key::Follows(conn, id));
     if i < memory::count(&*m, Which::Waiting) {
         let mut flags = [0; 64];
-        let end = walk(&*m, conn, id, &mut flags);
+        let end = walk(&*m, conn, id, 0, 0, &mut flags);
         let chain = Chain { conn, end };
         end_flagged(&mut *m, res, chain, &flags, &mut *out, len)
     } else {
