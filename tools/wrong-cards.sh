@@ -49,8 +49,11 @@ changed() {
 
 # built [EDIT]: the program $work/card, wrong by the edit if there is one
 built() {
-    rm -rf "$work/repo/crates/card/src" "$work/module.bc" "$work/card" "$work/log" "$work/said"
-    cp -R crates/card/src "$work/repo/crates/card/"
+    rm -rf "$work/module.bc" "$work/card" "$work/log" "$work/said"
+    for part in card standard_streams; do
+        rm -rf "$work/repo/crates/$part/src"
+        cp -R "crates/$part/src" "$work/repo/crates/$part/"
+    done
     if [ $# -gt 0 ]; then
         file=$(sed -n 's/^file: //p' "$1")
         changed "$1" "crates/card/$file" >"$work/repo/crates/card/$file" || return 1

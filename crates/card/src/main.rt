@@ -24,7 +24,7 @@ struct Left {
     written: Written,
 }
 
-// Why the program ends: there is nothing more to play; its output is not taken; or it has counted its turns down.
+// Why the program ends: there is nothing more to play; its output is not taken; or it has counted its turns out.
 // Of its own: what is over says something else in each program.
 #[derive(Clone, Copy)]
 enum Stop {
@@ -106,7 +106,7 @@ fn turn(
     }
 }
 
-// A proved loop has to end, and nothing says that the input does. So it counts its turns down, from a number that no run uses up.
+// A proved loop has to end, and nothing says that the input does. So it counts its turns, up to a number that no run reaches.
 fn turns(
     stdin: Stdin,
     stdout: Stdout,

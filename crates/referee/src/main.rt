@@ -95,7 +95,7 @@ fn close(stdout: Stdout, t: Stage, due: &[u8]) -> io::Result<()>
 }
 
 // Piece by piece, as it comes, and on to the end when something was told: who writes into a pipe is not stopped. A proved loop has to end,
-// and nothing says that the input does: it counts its turns down, from a number that no run uses up.
+// and nothing says that the input does: it counts its turns, up to a number that no run reaches.
 fn turns(
     stdin: Stdin,
     stdout: Stdout,

@@ -108,7 +108,7 @@ struct Read {
     last: Came,
 }
 
-// Why the program ends: there is nothing more to play; its output is not taken; or it has counted its turns down.
+// Why the program ends: there is nothing more to play; its output is not taken; or it has counted its turns out.
 // Of its own: what is over says something else in each program.
 #[derive(Clone, Copy)]
 enum Stop {
@@ -171,8 +171,8 @@ fn answer(stdout: Stdout, log: &mut [u8], l: &[u8], out: &mut [u8]) -> Written
     standard_streams::write(stdout, &out[..len])
 }
 
-// It goes on after 13. A proved loop has to end, and nothing says that the input does. So it counts its turns down, from a number that no
-// run uses up.
+// It goes on after 13. A proved loop has to end, and nothing says that the input does. So it counts its turns, up to a number that no
+// run reaches.
 fn turns(stdin: Stdin, stdout: Stdout, log: &mut [u8], l: &mut [u8], out: &mut [u8]) -> Stop
     requires l_len { length l.old ≡ 4098 }
     requires out_len { length out.old ≡ card_room }
