@@ -47,6 +47,14 @@ module _ (x : ℕ) where
   unfolding wire_time_of
   past h = rw (lt-ltb 0xFFFFFFFF (x / 9 / second) (omega arith))
 
+-- a cue without a time
+pub without-time : (x : Cue) (pts seconds micros : ℕ) → ((p : ℕ) → x ≡ At p → ⊥) → all_ones ≡ cue_time pts seconds micros x
+unfolding cue_time
+without-time (At p) pts seconds micros n = absurd (n p refl)
+without-time Timeless pts seconds micros n = refl
+without-time Silent pts seconds micros n = refl
+without-time Bad pts seconds micros n = refl
+
 module _ (pts seconds micros : ℕ) where
   -- in ninths, a tick being 100 of them
   pub exact-is : (p : ℕ) → exact pts seconds micros p ≡ 9 * (time_of seconds micros).0 + 100 * ticks_after pts p

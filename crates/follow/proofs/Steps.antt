@@ -278,7 +278,7 @@ within-at s l o n w r e f =
     let b : Begins l (Wrote n) = begins-as l e in
     omega (arith, due-within (still s) [] [] o w r (take n l) f, length-take-le n l b.0.there)
 
-open_step : (s : Stage) (l m b o : List ℕ) (e : Entry) → Stands s m b o → s.told ≡ in_order → entry_in l ≡ e → is_open e ≡ true
+pub open_step : (s : Stage) (l m b o : List ℕ) (e : Entry) → Stands s m b o → s.told ≡ in_order → entry_in l ≡ e → is_open e ≡ true
     → 0 ≡ span_of e → Steps s l m b o (record { taken = 0; stage = s }) m b o
 open_step s l m b o e h z f p q =
     step-none s l m b o h z (ap is_open f ∙ p) (q ∙ sym (ap span_of f))

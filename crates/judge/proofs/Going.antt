@@ -35,11 +35,11 @@ module _ (g : Bench) (l : List ℕ) where
   step : {e : Entry} → entry_in l ≡ e → judged g (entries l) ≡ judged g (entries_by entries e l)
   step e = ap (judged g) (entries-step l ∙ ap (λ x. entries_by entries x l) e)
 
-  cut-judged : entry_in l ≡ Cut → judged g (entries l) ≡ None
+  pub cut-judged : entry_in l ≡ Cut → judged g (entries l) ≡ None
   unfolding entries_by judged
   cut-judged e = step e
 
-  another-judged : entry_in l ≡ Another → judged g (entries l) ≡ None
+  pub another-judged : entry_in l ≡ Another → judged g (entries l) ≡ None
   unfolding entries_by judged
   another-judged e = step e
 

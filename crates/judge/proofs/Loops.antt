@@ -134,11 +134,11 @@ judged-start l m b name e f =
 
 -- what the unknown mark is, or else the judgement
 module _ (l : List ℕ) (h : length l ≤ longest) where
-  checked-unknown : {u : Finding} → first_unknown l ≡ Some u → checked l ≡ Some u
+  pub checked-unknown : {u : Finding} → first_unknown l ≡ Some u → checked l ≡ Some u
   unfolding before
   checked-unknown e = short-is l h ∙ ap (λ x. before x (judged start (entries l))) e
 
-  checked-judged : first_unknown l ≡ None → checked l ≡ judged start (entries l)
+  pub checked-judged : first_unknown l ≡ None → checked l ≡ judged start (entries l)
   unfolding before
   checked-judged e = short-is l h ∙ ap (λ x. before x (judged start (entries l))) e
 
