@@ -156,24 +156,18 @@ space-from l {at} = go (full l) refl
     go false f e = (f, subst (Behind l) (same_Some (taken l) at e) (place-behind l f))
 
 -- what is made of it
-pub place-none : (o : Option ℕ) {n : Refused} → ok_or o Full ≡ Err n → (o ≡ None) × (n ≡ Full)
-place-none None e = (refl, cc)
-place-none (Some x) e = absurd (err_no_ok (sym e))
-
-pub place-some : (o : Option ℕ) {at : ℕ} → ok_or o Full ≡ Ok at → o ≡ Some at
-place-some None e = absurd (err_no_ok e)
-place-some (Some x) e = cc
+pub begins : (l : List ℕ) (o : Option ℕ) → o ≡ space_in l → Begins l (ok_or o Full)
+begins l None e = (space-none l (sym e), refl)
+begins l (Some at) e = space-from l (sym e)
 
 -- what `begin` gives
-pub begun-full : (k : Call) (l e m : List ℕ) {r : Result (ℕ × Carried) Refused} {n : Refused} → Begins l r m → r ≡ Err n
-    → Remembers k l e (Err n) l e
-begun-full k l e m b i =
-    let a = subst (λ x. Begins l x m) i b in
+pub begun-full : (k : Call) (l e : List ℕ) {r : Result ℕ Refused} {n : Refused} → Begins l r → r ≡ Err n → Remembers k l e (Err n) l e
+begun-full k l e b i =
+    let a = subst (Begins l) i b in
     subst (λ x. Remembers k l e (Err x) l e) (sym a.1) (remembers-full k l e a.0)
 
-pub begun-there : (l m : List ℕ) {r : Result (ℕ × Carried) Refused} {p : ℕ × Carried} → Begins l r m → r ≡ Ok p
-    → (full l ≡ false) × Behind l p.0 × Passed l p.1 m
-begun-there l m b i = subst (λ x. Begins l x m) i b
+pub begun-there : (l : List ℕ) {r : Result ℕ Refused} {at : ℕ} → Begins l r → r ≡ Ok at → (full l ≡ false) × Behind l at
+begun-there l b i = subst (Begins l) i b
 
 -- ## A call that was played behind all kept ones
 

@@ -30,21 +30,20 @@ pub fn fresh(log: &mut [u8]) -> Reply
     Ok(Did::unmoved(0))
 }
 
-// 13 before all others; else where the next record goes, and what the calls before it lead to.
-fn begin(log: &[u8], m: &mut [u64; WORDS]) -> Result<(usize, Carried), Refused>
-    ensures { Begins log.now result m.new }
+// 13 before all others; else where the next record goes.
+fn begin(log: &[u8]) -> Result<usize, Refused>
+    ensures { Begins log.now result }
 {
-    let at = recall_log::next_place(log).ok_or(Refused::Full)?;
-    let h = recall_pass::pass(log, &mut *m);
-    Ok((at, h))
+    recall_log::next_place(log).ok_or(Refused::Full)
 }
 
 // Open: 13, 1, 6.
 pub fn open(log: &mut [u8], conn: u32) -> Reply
     ensures { Remembers (opens conn) log.old [] result log.new [] }
 {
+    let at = begin(&*log)?;
     let mut m = [0; WORDS];
-    let (at, h) = begin(&*log, &mut m)?;
+    let h = recall_pass::pass(&*log, &mut m);
     let p = recall_pass::open(h, conn)?;
     recall_log::keep_open(&mut *log, at, conn as u8);
     Ok(p.did)
@@ -55,8 +54,9 @@ pub fn close(log: &mut [u8], conn: u32, out: &mut [u8]) -> Reply
     ensures { Remembers (closes conn (length out.old)) log.old out.old result
         log.new out.new }
 {
+    let at = begin(&*log)?;
     let mut m = [0; WORDS];
-    let (at, h) = begin(&*log, &mut m)?;
+    let h = recall_pass::pass(&*log, &mut m);
     let p = recall_pass::close(&mut m, h, conn, &mut *out)?;
     recall_log::keep_close(&mut *log, at, conn as u8);
     Ok(p.did)
@@ -67,8 +67,9 @@ pub fn tick(log: &mut [u8], seconds: u32, micros: u32, out: &mut [u8]) -> Reply
     ensures { Remembers (ticks seconds micros (length out.old)) log.old out.old result
         log.new out.new }
 {
+    let at = begin(&*log)?;
     let mut m = [0; WORDS];
-    let (at, h) = begin(&*log, &mut m)?;
+    let h = recall_pass::pass(&*log, &mut m);
     let p = recall_pass::tick(&mut m, h, seconds, micros, &mut *out)?;
     recall_log::keep_tick(&mut *log, at, seconds, micros);
     Ok(p.did)
@@ -115,8 +116,9 @@ pub fn message<'a>(
         (messages conn l.now (lending_maps primary.now insertion.now (length out.old)))
         log.old out.old result log.new out.new }
 {
+    let at = begin(&*log)?;
     let mut m = [0; WORDS];
-    let (at, h) = begin(&*log, &mut m)?;
+    let h = recall_pass::pass(&*log, &mut m);
     let head = recall_pass::framed(h, conn, l, out.len(), is_long(primary, insertion))?;
     let section = map_on_air(primary, insertion, recall_pass::feed(&m, h));
     let d = reading::data_of(l, head.size as usize);
