@@ -122,10 +122,12 @@ module _ (clock c : ℕ) (r : Request) (m : List ℕ) {t n : ℕ} {new : Session
         )
 
   module _ {e o : List ℕ} where
-    pub splice-accepted : {g : Given} {k : List ℕ} → n ≡ 100 → Admits new m e g k o → g.accepted ≡ Some new → Splices clock c r m e g k o
-    splice-accepted {g} {k} h a y =
+    pub splice-accepted : {g : Given} {k : List ℕ} → n ≡ 100 → Admits new m e g k o → g.new ≡ new → g.accepted ≡ Some new
+        → Splices clock c r m e g k o
+    splice-accepted {g} {k} h a z y =
         let back = sym (granted h) in
         record {
+          new = z ∙ asked;
           accepted =
               y ∙ ap Some asked
               ∙ ap (λ (b : Spliced). cond b.accepted (Some (requested c r (all m))) None) back;
@@ -141,10 +143,11 @@ module _ (clock c : ℕ) (r : Request) (m : List ℕ) {t n : ℕ} {new : Session
         }
 
     pub splice-declined : {len : ℕ} → (n ≡ 100 → ⊥) → Puts (SpliceResponse c n r.id) e len o
-        → Splices clock c r m e (record { len = len; moved = 0; accepted = None }) m o
+        → Splices clock c r m e (record { len = len; moved = 0; new = new; accepted = None }) m o
     splice-declined {len} h w =
         let back = sym (declined h) in
         record {
+          new = asked;
           accepted = ap (λ (b : Spliced). cond b.accepted (Some (requested c r (all m))) None) back;
           holds = ap (λ (b : Spliced). b.turn.verdicts) back;
           tells = subst (λ (rs : List Record). Tells e 0 rs len o) (ap (λ (b : Spliced). b.turn.written) back) (tells_first w);
@@ -167,8 +170,11 @@ splices-same {clock} {c} {r} {m} {e} {g} {g'} {k} {k'} {o} {o'} a b =
     yes : g.accepted ≡ g'.accepted
     yes = a.accepted ∙ sym b.accepted
 
+    new : g.new ≡ g'.new
+    new = a.new ∙ sym b.new
+
     given : g ≡ g'
-    given = λ i. record { len = len i; moved = moved i; accepted = yes i }
+    given = λ i. record { len = len i; moved = moved i; new = new i; accepted = yes i }
 
     held : joined g.accepted (all k) ≡ joined g.accepted (all k')
     held = a.holds ∙ sym b.holds ∙ ap (λ (x : Option Session). joined x (all k')) (sym yes)

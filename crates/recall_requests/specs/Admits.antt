@@ -27,9 +27,10 @@ accepted_of clock c r l = cond (answer_splice clock c r l).accepted (Some (reque
 abbrev pub spliced : (clock c : ℕ) → Request → List Verdict → Turn
 spliced clock c r l = (answer_splice clock c r l).turn
 
--- of the words m and the buffer e: the session that is asked for, if it was accepted, and 02's number; the words k and it are the verdicts
--- after the answer, whose records stand in the buffer
+-- of the words m and the buffer e: the session that is asked for, that session if it was accepted, and 02's number; the words k and it are
+-- the verdicts after the answer, whose records stand in the buffer
 pub record Splices (clock c : ℕ) (r : Request) (m e : List ℕ) (g : Given) (k o : List ℕ) : Type 0 where
+  pub new : g.new ≡ requested c r (all m)
   pub accepted : g.accepted ≡ accepted_of clock c r (all m)
   pub holds : joined g.accepted (all k) ≡ (spliced clock c r (all m)).verdicts
   pub tells : Tells e 0 (spliced clock c r (all m)).written g.len o

@@ -17,11 +17,12 @@ ghost use Rattle.recall_requests.specs.Admits.{admitted, spliced, Few, Admits, S
 use recall_rows::{Stand, Test};
 use rules::{Ninths, Request, Session, Start};
 
-// What an answer gave: how far the output is written, 02's CR 11, and the session that was accepted, if one was.
+// What an answer gave: how far the output is written, 02's CR 11, the session that was asked for, and that session if it was accepted.
 #[derive(Clone, Copy)]
 pub struct Given {
     pub len: usize,
     pub moved: usize,
+    pub new: Session,
     pub accepted: Option<Session>,
 }
 
@@ -189,7 +190,7 @@ fn splice_result(m: &[u64], clock: Ninths, r: Request, new: Session) -> u16
 fn accept(m: &mut [u64], new: Session, out: &mut [u8]) -> Given
     requires { Room (admitted new) 0 m.old out.old }
     ensures admits { Admits new m.old out.old result m.new out.new }
-    ensures accepted_value { result.accepted ≡ Some new }
+    ensures accepted_value { (result.new ≡ new) × (result.accepted ≡ Some new) }
 {
     let t = new.start.0;
     let len = recall_ends::evict(&mut *m, t, &mut *out, 0);
@@ -197,6 +198,7 @@ fn accept(m: &mut [u64], new: Session, out: &mut [u8]) -> Given
     Given {
         len: len + writing::splice_response(&mut out[len..], new.conn, 100, new.id),
         moved,
+        new,
         accepted: Some(new),
     }
 }
@@ -218,6 +220,7 @@ pub fn answer_splice(m: &mut [u64], clock: Ninths, conn: u64, r: Request, out: &
     Given {
         len: writing::splice_response(&mut *out, conn, n, r.id as u64),
         moved: 0,
+        new,
         accepted: None,
     }
 }

@@ -34,7 +34,7 @@ returns-then-n-eq100 c =
     let a = c.args in
     let g = c.accept.ensures in
     splice-accepted a.clock.0 a.conn a.r a.m.now c.start_of-t.ensures c.session_at-new.ensures c.splice_result-n.ensures c.if-n-eq100.true
-    g.admits g.accepted_value
+    g.admits g.accepted_value.0 g.accepted_value.1
 
 pub splice_response-requires : goal.splice_response-requires
 splice_response-requires c =
