@@ -2,17 +2,17 @@
 -- Rests on recall_ends' laws of what is told, and on rules' laws of names and of records' lengths.
 use mathlib.Core.Path.{◌≡◌, refl, sym, ap, ap₂, subst, ◌∙◌}
 use mathlib.Core.Bool.{Bool, true, false, cond, not}
-use mathlib.Core.List.{List}
+use mathlib.Core.List.{List, map}
 use Prim.Native.Nat.{ℕ, ◌≤◌}
 use native.Mathlib.Omega.{arith}
 use lib.Dec.{eqb}
-use lib.ListN.{length, get_or}
+use lib.ListN.{length, get_or, get_or-map}
 use borrow.Author.Tests.{eq-eqb, ne_eqb}
 use Rattle.std.specs.Prelude.{Option, None, Some}
 use Rattle.std.proofs.lemmas.Option.{none-some}
 use Rattle.rules.specs.declared.Session.{Session}
 use Rattle.rules.specs.declared.Link.{Link}
-use Rattle.rules.specs.declared.Link.TheVariants.{Closed}
+use Rattle.rules.specs.declared.Link.TheVariants.{Closed, Opened, Initialised}
 use Rattle.rules.specs.declared.Request.{Request}
 use Rattle.rules.specs.declared.Message.{Message}
 use Rattle.rules.specs.Bytes.{name_in, padded, same_name}
@@ -34,7 +34,23 @@ use Rattle.recall_answers.specs.declared.Carried.{Carried}
 use Rattle.recall_answers.specs.declared.Effect.TheVariants.{Joins, Enters, Configures}
 use Rattle.rules.specs.declared.Message.TheVariants.{Init, Config}
 use Rattle.recall_answers.specs.declared.Given.{Given}
-use Rattle.recall_answers.specs.Replies.{pass_of, barred, effected, spoken, Gives, Replies, Reads, Inits, Splices, Says, done}
+use Rattle.recall_answers.specs.Replies.{link_for, pass_of, barred, effected, spoken, Gives, Replies, Reads, Inits, Splices, Says, done}
+
+-- ## What a connection is
+
+module _ {k : ℕ} where
+  pub link-opened : k ≡ 1 → Opened ≡ link_for k
+  unfolding link_for
+  link-opened e = rw (eq-eqb k 1 e)
+
+  module _ (n : k ≡ 1 → ⊥) where
+    pub link-initialised : k ≡ 2 → Initialised ≡ link_for k
+    unfolding link_for
+    link-initialised e = rw (ne_eqb k 1 n, eq-eqb k 2 e)
+
+    pub link-closed : (k ≡ 2 → ⊥) → Closed ≡ link_for k
+    unfolding link_for
+    link-closed m = rw (ne_eqb k 1 n, ne_eqb k 2 m)
 
 -- ## ChannelName is "CH1"
 
@@ -131,9 +147,10 @@ configures c d h m {e} q =
 
 -- ## "first that applies"
 
-bars : (c id : ℕ) (h : Carried) {l : Link} {t v : Bool} → l ≡ get_or h.links c Closed → t ≡ barred l id → t ≡ v →
-    barred (get_or h.links c Closed) id ≡ v
-bars c id h p q i = ap (λ (y : Link). barred y id) (sym p) ∙ sym q ∙ i
+bars : (c id : ℕ) (h : Carried) {l : Link} {t v : Bool} → l ≡ link_for (get_or h.links c 0) → t ≡ barred l id → t ≡ v →
+    barred (get_or (map link_for h.links) c Closed) id ≡ v
+unfolding link_for
+bars c id h p q i = ap (λ (y : Link). barred y id) (get_or-map link_for h.links c 0 ∙ sym p) ∙ sym q ∙ i
 
 module _ (c id : ℕ) (d : List ℕ) (h : Carried) (m : List ℕ) {e : List ℕ} {g : Given} where
   -- "1. ID 0x0000: no answer."
@@ -142,7 +159,7 @@ module _ (c id : ℕ) (d : List ℕ) (h : Carried) (m : List ℕ) {e : List ℕ}
   first z q hardware section = rw (eq-eqb id 0x0000 z) (told c d section q refl tells_none)
 
   -- l: what the connection is; t: whether that bars the message
-  module _ (n : id ≡ 0x0000 → ⊥) {l : Link} {t : Bool} (p : l ≡ get_or h.links c Closed) (q : t ≡ barred l id) where
+  module _ (n : id ≡ 0x0000 → ⊥) {l : Link} {t : Bool} (p : l ≡ link_for (get_or h.links c 0)) (q : t ≡ barred l id) where
     -- "2. Not initialised and not Init_Request: General_Response 103."
     pub second : t ≡ true → {o : List ℕ} → (g ≡ done g.len) × Says (General c 103) e g.len o → Replies c id d h m e g m o
     unfolding answer

@@ -1,10 +1,11 @@
 -- What a pass over the log carries in code, and what an answer to a message promises of it, of the lent words and of the buffer.
-use Rattle.std.specs.Prelude.{Option, None, Some, IfSome, ◌≡◌, Bool, false, not, ◌&&◌, List, [], ◌∷◌, ◌++◌, map, ℕ, ◌+◌, ◌≤◌, eqb, length}
-use Rattle.std.specs.Prelude.{drop}
+use Rattle.std.specs.Prelude.{Option, None, Some, IfSome, ◌≡◌, Bool, false, cond, not, ◌&&◌, List, [], ◌∷◌, ◌++◌, map, ℕ, ◌+◌, ◌≤◌, eqb}
+use Rattle.std.specs.Prelude.{length, drop}
 use Rattle.rules.specs.declared.Link.{Link}
 use Rattle.rules.specs.declared.Message.{Message}
 use Rattle.rules.specs.declared.Message.TheVariants.{Init, Splice}
 use Rattle.rules.specs.declared.Request.{Request}
+use Rattle.rules.specs.declared.Link.TheVariants.{Closed, Opened, Initialised}
 use Rattle.rules.specs.Bytes.{message_size, data_of}
 use Rattle.rules.specs.Reading.{init_request, bad_init}
 use Rattle.rules.specs.Hardware.{hardware_in}
@@ -22,10 +23,14 @@ use Rattle.recall_answers.specs.declared.Given.{Given}
 
 -- ## What is carried
 
+-- a connection's word: 1 open, 2 initialised, any other closed
+unfoldable pub link_for : ℕ → Link
+link_for k = cond (eqb k 1) Opened (cond (eqb k 2) Initialised Closed)
+
 -- the pass of what is carried and of the verdicts in the words m; the Hardware_Configs stand in the log
 abbrev pub pass_of : (hardware : List (List ℕ)) → Carried → (m : List ℕ) → Pass
 pass_of hardware h m =
-    record { name = card_name; clock = h.clock.0; links = h.links; hardware = hardware; verdicts = all m }
+    record { name = card_name; clock = h.clock.0; links = map link_for h.links; hardware = hardware; verdicts = all m }
 
 -- 02, CR 6: "the Hardware_Config of their Init_Request": of the message that stands in the log l at the place p, if any is kept
 unfoldable pub hardware_at : (l : List ℕ) → Option ℕ → List ℕ

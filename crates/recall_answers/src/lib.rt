@@ -19,19 +19,19 @@ ghost use Rattle.recall_rules.specs.Work.{air_state, air_id, extended_response};
 ghost use Rattle.recall_rows.specs.Rows.{width, all};
 ghost use Rattle.recall_rows.specs.Scans.{place_in};
 ghost use Rattle.recall_instants.specs.Moments.{Keeps};
-ghost use Rattle.recall_answers.specs.Replies.{hardwares, Placed, barred, Replies, Reads, Inits, Splices, Says, done};
+ghost use Rattle.recall_answers.specs.Replies.{link_for, hardwares, Placed, barred, Replies, Reads, Inits, Splices, Says, done};
 
 use reading::numbers::number2;
 use recall_rows::{Stand, Test};
 use recall_rules::Phase;
 use rules::{Link, Message, Ninths, Past, Request, Session};
 
-// What a pass over the log carries beside the verdicts: the clock; of each connection what it is, and where in the log the message stands
-// whose Hardware_Config is kept; and how many verdicts there are.
+// What a pass over the log carries beside the verdicts: the clock; of each connection what it is (1 open, 2 initialised, any other closed),
+// and where in the log the message stands whose Hardware_Config is kept; and how many verdicts there are.
 #[derive(Clone, Copy)]
 pub struct Carried {
     pub clock: Ninths,
-    pub links: [Link; 4],
+    pub links: [u64; 4],
     pub places: [Option<usize>; 4],
     pub rows: usize,
 }
@@ -61,6 +61,18 @@ fn channel() -> [u8; 32]
     let mut r = [0; 32];
     r[..3].copy_from_slice(b"CH1");
     r
+}
+
+// What a connection is.
+pub fn link_of(h: Carried, conn: u32) -> Link
+    requires { conn ≤ 3 }
+    ensures { result ≡ link_for (get_or h.links conn 0) }
+{
+    match h.links[conn as usize] {
+        1 => Link::Opened,
+        2 => Link::Initialised,
+        _ => Link::Closed,
+    }
 }
 
 // Init: "Revision not 2 gives 102, another name 104, else 100".
@@ -289,7 +301,7 @@ pub fn answer(m: &mut [u64], h: Carried, conn: u32, id: u16, d: &[u8], out: &mut
     if id == 0x0000 {
         return said(0);
     }
-    let link = h.links[conn as usize];
+    let link = link_of(h, conn);
     if is_barred(link, id) {
         return general(conn, 103, &mut *out);
     }

@@ -6,7 +6,7 @@ use mathlib.Core.Bool.{Bool, true, false, cond}
 use mathlib.Core.List.{List, [], ◌∷◌, ◌++◌}
 use Prim.Native.Nat.{ℕ, ◌+◌, ◌*◌, ◌≤◌, ◌<◌}
 use native.Mathlib.Omega.{arith}
-use lib.ListN.{length, get_or, take, drop, set}
+use lib.ListN.{length, get_or, get_or-map, take, drop}
 use borrow.Author.Tests.{ltb-false, lt-ltb, le-ltb}
 use Rattle.rules.specs.declared.Ninths.{Ninths}
 use Rattle.rules.specs.declared.Link.{Link}
@@ -36,7 +36,7 @@ use Rattle.recall_ends.proofs.Laws.{tells_none}
 use Rattle.recall_instants.specs.Moments.{Keeps}
 use Rattle.recall_instants.proofs.Running.{tick-room}
 use Rattle.recall_answers.specs.declared.Carried.{Carried}
-use Rattle.recall_answers.specs.Replies.{pass_of, hardware_at, hardwares, Placed}
+use Rattle.recall_answers.specs.Replies.{link_for, pass_of, hardware_at, hardwares, Placed}
 use Rattle.recall_log.specs.Kept.{reply_of, unmoved}
 use Rattle.recall_pass.specs.declared.Played.{Played}
 use Rattle.recall_pass.specs.Passes.{rows_of, pass_in, relinked, replaced, carried_by, replied, Begins, Leads, Plays, tested, framed}
@@ -49,12 +49,12 @@ nowhere l = record { whole = tt; good = tt }
 
 pub begins : (l m : List ℕ) → Begins (record {
   clock = record { 0 = 0 };
-  links = Closed ∷ Closed ∷ Closed ∷ Closed ∷ [];
+  links = 0 ∷ 0 ∷ 0 ∷ 0 ∷ [];
   places = None ∷ None ∷ None ∷ None ∷ [];
   rows =
       0;
 }) l m
-unfolding hardware_at begun verdicts_in
+unfolding link_for hardware_at begun verdicts_in
 begins l m = record { none = refl; pass = refl; placed = (nowhere l, (nowhere l, (nowhere l, (nowhere l, tt)))) }
 
 -- ## A refusal, and a call that is done
@@ -101,6 +101,15 @@ not-closed Initialised h = refl
 abbrev pub made : ℕ → List Link → List (List ℕ) → List Verdict → Pass
 made t ls hs l = record { name = card_name; clock = t; links = ls; hardware = hs; verdicts = l }
 
+module _ (hardware : List (List ℕ)) (h : Carried) (m : List ℕ) (c : ℕ) where
+  -- a: what the code was told
+  pub link-is : {a : Link} → a ≡ link_for (get_or h.links c 0) → link_of c (pass_of hardware h m) ≡ a
+  unfolding link_for
+  link-is e = get_or-map link_for h.links c 0 ∙ sym e
+
+  pub linked-is : (code : ℕ) → pass_of hardware (relinked c code h) m ≡ with_link c (link_for code) (pass_of hardware h m)
+  linked-is code = ap (λ (x : List Link). made h.clock.0 x hardware (all m)) (map-set link_for h.links c code)
+
 -- ## Open
 
 module _ (c : ℕ) (s : Pass) where
@@ -120,16 +129,20 @@ module _ (c : ℕ) (h : Carried) (m e : List ℕ) (f : Fits h.rows m) (l : List 
   pub open-bad : 3 < c → Plays l h (open_call c (pass_in l h m)) e (Err NoConnection) m e
   open-bad i = refuses l h m f e NoConnection (open_none c (pass_in l h m) i)
 
-  module _ (low : c ≤ 3) where
-    pub open_twice : is_open (get_or h.links c Closed) ≡ true → Plays l h (open_call c (pass_in l h m)) e (Err AlreadyOpen) m e
-    open_twice i = refuses l h m f e AlreadyOpen (open-again c (pass_in l h m) low i)
+  module _ (a : Link) (low : c ≤ 3) (is : a ≡ link_for (get_or h.links c 0)) where
+    same : link_of c (pass_in l h m) ≡ a
+    same = link-is (hardwares l h) h (rows_of h m) c is
 
-    pub open_done : {r : Carried} → is_open (get_or h.links c Closed) ≡ false → r ≡ relinked c Opened h
+    pub open_twice : is_open a ≡ true → Plays l h (open_call c (pass_in l h m)) e (Err AlreadyOpen) m e
+    open_twice i = refuses l h m f e AlreadyOpen (open-again c (pass_in l h m) low (ap is_open same ∙ i))
+
+    pub open_done : {r : Carried} → is_open a ≡ false → r ≡ relinked c 1 h
         → Plays l h (open_call c (pass_in l h m)) e (plays r 0) m e
+    unfolding link_for
     open_done {r} i g =
         subst (λ (x : Carried). Plays l h (open_call c (pass_in l h m)) e (plays x 0) m e) (sym g)
-        (plays-done [] (with_link c Opened (pass_in l h m)) (open-good c (pass_in l h m) low i)
-        (record { pass = refl; fits = f; few = omega arith; placed = λ x. x })
+        (plays-done [] (with_link c Opened (pass_in l h m)) (open-good c (pass_in l h m) low (ap is_open same ∙ i))
+        (record { pass = linked-is (hardwares l h) h (rows_of h m) c 1; fits = f; few = omega arith; placed = λ x. x })
         tells_none)
 
 -- ## 1, 2, 7
@@ -258,9 +271,9 @@ module _ (c : ℕ) (h : Carried) (m e : List ℕ) (f : Fits h.rows m) (l : List 
   -- k: the words of the rows after it
   pub shuts : {u : Unit {0}} {k o : List ℕ} {len : ℕ} {q : Carried} → r ≡ Ok u → length k ≡ length (rows_of h m)
       → Does (closed_by c) 0 (rows_of h m) e len k o
-      → q ≡ replaced c None (relinked c Closed h)
+      → q ≡ replaced c None (relinked c 0 h)
       → Plays l h (close_call c (length e) (pass_in l h m)) e (plays q len) (k ++ drop (h.rows * width) m) o
-  unfolding hardware_at
+  unfolding link_for hardware_at
   shuts {u} {k} {o} {len} {q} i z d g =
       let t = closed_by c (all (rows_of h m)) in
       let x = k ++ drop (h.rows * width) m in
@@ -268,7 +281,7 @@ module _ (c : ℕ) (h : Carried) (m e : List ℕ) (f : Fits h.rows m) (l : List 
       subst (λ (y : Carried). Plays l h (close_call c (length e) (pass_in l h m)) e (plays y len) x o) (sym g)
       (plays-done t.written (shut c (with_verdicts t.verdicts (pass_in l h m))) (close-good i)
       (record {
-        pass = λ j. made h.clock.0 (set h.links c Closed) (map-set (hardware_at l) h.places c None j) (v j);
+        pass = λ j. made h.clock.0 (map-set link_for h.links c 0 j) (map-set (hardware_at l) h.places c None j) (v j);
         fits = omega (arith, long-back h.rows m k f z, f);
         few = omega arith;
         placed = all_set (Placed l) h.places c None (nowhere l);

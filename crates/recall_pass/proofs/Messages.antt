@@ -13,7 +13,6 @@ use Rattle.rules.specs.declared.Session.{Session}
 use Rattle.std.specs.Prelude.{Option, Some, Result, Ok, Err}
 use Rattle.rules.specs.declared.Header.{Header}
 use Rattle.rules.specs.declared.Refusal.{Refusal}
-use Rattle.rules.specs.declared.Link.TheVariants.{Initialised}
 use Rattle.rules.specs.declared.Refusal.TheVariants.{NoConnection, NoRoom, NotOpen, LongSection}
 use Rattle.rules.specs.Lists.{All}
 use Rattle.rules.specs.Bytes.{value, part, field, message_size, oversize, data_of}
@@ -34,13 +33,13 @@ use Rattle.recall_answers.specs.declared.Carried.{Carried}
 use Rattle.recall_answers.specs.declared.Given.{Given}
 use Rattle.recall_answers.specs.declared.Effect.{Effect}
 use Rattle.recall_answers.specs.declared.Effect.TheVariants.{Nothing, Joins, Enters, Configures}
-use Rattle.recall_answers.specs.Replies.{pass_of, hardware_at, hardwares, Placed, effected, Left, Replies}
+use Rattle.recall_answers.specs.Replies.{link_for, pass_of, hardware_at, hardwares, Placed, effected, Left, Replies}
 use Rattle.recall_log.proofs.Firsts.{part-take}
 use Rattle.recall_pass.specs.declared.Heard.{Heard}
 use Rattle.recall_pass.specs.Passes.{rows_of, pass_in, relinked, replaced, framed, FramesAny, kept_by, Settles, SettlesAny, Hears}
 use Rattle.recall_pass.specs.Passes.{HearsAny, Leads}
 use Rattle.recall_pass.proofs.Rows.{map-set, all_set, rows_back, all_more}
-use Rattle.recall_pass.proofs.Calls.{made, stays, ok_no_err}
+use Rattle.recall_pass.proofs.Calls.{made, linked-is, stays, ok_no_err}
 
 -- ## What is left to do
 
@@ -57,12 +56,12 @@ module _ (c : ℕ) (h : Carried) (m : List ℕ) (f : Fits (h.rows + 1) m) {x : E
       subst (λ (y : Effect). Settles c d y hardware h m h m) (sym e) (record
       { pass = refl; fits = omega arith; few = omega arith; places = refl })
 
-  pub settles-enters : {r : Carried} → x ≡ Enters → r ≡ relinked c Initialised h → Settles c d x hardware h m r m
-  unfolding kept_by effected
+  pub settles-enters : {r : Carried} → x ≡ Enters → r ≡ relinked c 2 h → Settles c d x hardware h m r m
+  unfolding kept_by effected link_for
   settles-enters {r} e g =
       subst (λ (y : Effect). Settles c d y hardware h m r m) (sym e)
       (subst (λ (y : Carried). Settles c d Enters hardware h m y m) (sym g)
-      (record { pass = refl; fits = omega arith; few = omega arith; places = refl }))
+      (record { pass = linked-is _ h (rows_of h m) c 2; fits = omega arith; few = omega arith; places = refl }))
 
   -- k: the words with the row behind the last
   pub settles-joins : {s : Session} {k : List ℕ} → x ≡ Joins s → length k ≡ length m

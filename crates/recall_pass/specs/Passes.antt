@@ -1,6 +1,5 @@
 -- A pass over the calls in a log: what is carried from call to call stands for 01's pass over verdicts.
 use Rattle.std.specs.Prelude.{Option, Result, Ok, Err, ◌≡◌, Bool, cond, List, ℕ, ◌+◌, ◌*◌, ◌≤◌, ◌<◌, take, set}
-use Rattle.rules.specs.declared.Link.{Link}
 use Rattle.rules.specs.declared.Refusal.{Refusal}
 use Rattle.rules.specs.declared.Refusal.TheVariants.{NoConnection, NoRoom, NotOpen, LongSection}
 use Rattle.rules.specs.declared.Header.{Header}
@@ -38,7 +37,7 @@ abbrev pub pass_in : (l : List ℕ) → Carried → (m : List ℕ) → Pass
 pass_in l h m = pass_of (hardwares l h) h (rows_of h m)
 
 -- connection c is that from now on
-abbrev pub relinked : (c : ℕ) → Link → Carried → Carried
+abbrev pub relinked : (c code : ℕ) → Carried → Carried
 relinked c k h = record { clock = h.clock; links = set h.links c k; places = h.places; rows = h.rows }
 
 -- its Hardware_Config stands there from now on

@@ -49,7 +49,7 @@ fn begun() -> Carried
 {
     Carried {
         clock: Ninths(0),
-        links: [Link::Closed; 4],
+        links: [0; 4],
         places: [None; 4],
         rows: 0,
     }
@@ -57,12 +57,12 @@ fn begun() -> Carried
 
 // What connection conn is from now on.
 // Two, this and `placed`, since they set different fields: what they share is a copy and an assignment.
-fn linked(h: Carried, conn: u32, link: Link) -> Carried
+fn linked(h: Carried, conn: u32, code: u64) -> Carried
     requires { conn ≤ 3 }
-    ensures { result ≡ relinked conn link h }
+    ensures { result ≡ relinked conn code h }
 {
     let mut next = h;
-    next.links[conn as usize] = link;
+    next.links[conn as usize] = code;
     next
 }
 
@@ -93,11 +93,11 @@ pub fn open(h: Carried, conn: u32) -> Result<Played, Refusal>
     if 3 < conn {
         return Err(Refusal::NoConnection);
     }
-    let Link::Closed = h.links[conn as usize] else {
+    let Link::Closed = recall_answers::link_of(h, conn) else {
         return Err(Refusal::AlreadyOpen);
     };
     Ok(Played {
-        carried: linked(h, conn, Link::Opened),
+        carried: linked(h, conn, 1),
         did: Did::unmoved(0),
     })
 }
@@ -112,7 +112,7 @@ fn tested(h: Carried, conn: u32, room: usize) -> Result<(), Refusal>
     if room < 4096 {
         return Err(Refusal::NoRoom);
     }
-    if let Link::Closed = h.links[conn as usize] {
+    if let Link::Closed = recall_answers::link_of(h, conn) {
         return Err(Refusal::NotOpen);
     }
     Ok(())
@@ -145,7 +145,7 @@ pub fn close(m: &mut [u64], h: Carried, conn: u32, out: &mut [u8]) -> Result<Pla
     let end = h.rows * WIDTH;
     let len = recall_ends::close(&mut m[..end], conn as u64, &mut *out, 0);
     Ok(Played {
-        carried: placed(linked(h, conn, Link::Closed), conn, None),
+        carried: placed(linked(h, conn, 0), conn, None),
         did: Did::unmoved(len),
     })
 }
@@ -200,7 +200,7 @@ fn settle(m: &mut [u64], h: Carried, conn: u32, effect: Effect) -> Carried
             );
             Carried { rows: n + 1, ..h }
         }
-        Effect::Enters => linked(h, conn, Link::Initialised),
+        Effect::Enters => linked(h, conn, 2),
         Effect::Nothing | Effect::Configures => h,
     }
 }
