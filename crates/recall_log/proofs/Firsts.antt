@@ -65,8 +65,8 @@ pub record First (l : List ℕ) (k : Call) (m : List ℕ) : Type 0 where
   pub marks : length (marked k) ≡ size
   pub kind : Record
   pub kind_is : record_of (calls k m) ≡ Some kind
-  pub span : span_of kind ≡ size
-  pub made : call_of kind l ≡ k
+  pub span : span_of (Some kind) ≡ size
+  pub made : call_of (Some kind) l ≡ k
   pub again : (y : List ℕ) → next (take size l ++ y) ≡ calls k y
 
 abbrev pub Begins : List ℕ → Next → Type 0

@@ -107,17 +107,42 @@ none-is l e = go (next l) refl e
     go (ends k) f e = tt
     go stops f e = tt
 
+-- it takes no bytes: no call stands there
+pub span_none : (l : List ℕ) → span_of (record_in l) ≡ 0 → NoCall (next l)
+unfolding record_in
+span_none l e = go (next l) refl e
+  where
+    go : (x : Next) → next l ≡ x → span_of (record_of x) ≡ 0 → NoCall x
+    go (calls k m) f e = let g = first l f in absurd (omega (arith, e, ap span_of g.kind_is, g.span, g.two))
+    go (ends k) f e = tt
+    go stops f e = tt
+
+-- it takes some: a call stands there, in the words of the record
+pub span-some : (l : List ℕ) → 0 < span_of (record_in l) → next l ≡ calls (call_of (record_in l) l) (drop (span_of (record_in l)) l)
+unfolding record_in record_of span_of
+span-some l h = go (next l) refl h
+  where
+    go : (x : Next) → next l ≡ x → 0 < span_of (record_of x) → x ≡ calls (call_of (record_of x) l) (drop (span_of (record_of x)) l)
+    go (calls k m) f h =
+        let g = first l f in
+        let s : span_of (record_of (calls k m)) ≡ g.size = ap span_of g.kind_is ∙ g.span in
+        let d : call_of (record_of (calls k m)) l ≡ k = ap (λ x. call_of x l) g.kind_is ∙ g.made in
+        ap (λ x. calls k x) (g.rest ∙ ap (λ n. drop n l) (sym s))
+        ∙ ap (λ x. calls x (drop (span_of (record_of (calls k m))) l)) (sym d)
+    go (ends k) f h = absurd (omega arith)
+    go stops f h = absurd (omega arith)
+
 -- a call stands there, in the words of the record
-pub some-is : (l : List ℕ) {r : Record} → record_in l ≡ Some r → next l ≡ calls (call_of r l) (drop (span_of r) l)
+pub some-is : (l : List ℕ) {r : Record} → record_in l ≡ Some r → next l ≡ calls (call_of (Some r) l) (drop (span_of (Some r)) l)
 unfolding record_in record_of
 some-is l {r} e = go (next l) refl e
   where
-    go : (x : Next) → next l ≡ x → record_of x ≡ Some r → x ≡ calls (call_of r l) (drop (span_of r) l)
+    go : (x : Next) → next l ≡ x → record_of x ≡ Some r → x ≡ calls (call_of (Some r) l) (drop (span_of (Some r)) l)
     go (calls k m) f e =
         let g = first l f in
         let h : g.kind ≡ r = same_Some g.kind r (sym g.kind_is ∙ e) in
-        ap (λ x. calls k x) (g.rest ∙ ap (λ n. drop n l) (sym g.span ∙ ap span_of h))
-        ∙ ap (λ x. calls x (drop (span_of r) l)) (sym g.made ∙ ap (λ x. call_of x l) h)
+        ap (λ x. calls k x) (g.rest ∙ ap (λ n. drop n l) (sym g.span ∙ ap (λ x. span_of (Some x)) h))
+        ∙ ap (λ x. calls x (drop (span_of (Some r)) l)) (sym g.made ∙ ap (λ x. call_of (Some x) l) h)
     go (ends k) f e = absurd (none-some r e)
     go stops f e = absurd (none-some r e)
 
@@ -138,26 +163,26 @@ module _ (l : List ℕ) (at : ℕ) where
     record_is : record_in (drop at l) ≡ Some r
     record_is = ap record_in (sym (tail l at)) ∙ e
 
-    there : next (drop at l) ≡ calls (call_of r (drop at l)) (drop (span_of r) (drop at l))
+    there : next (drop at l) ≡ calls (call_of (Some r) (drop at l)) (drop (span_of (Some r)) (drop at l))
     there = some-is (drop at l) record_is
 
-    size-is-span : (first (drop at l) there).size ≡ span_of r
+    size-is-span : (first (drop at l) there).size ≡ span_of (Some r)
     unfolding record_in
     size-is-span =
         let f = first (drop at l) there in
-        sym f.span ∙ ap span_of (same_Some f.kind r (sym f.kind_is ∙ ap record_of (sym there) ∙ record_is))
+        sym f.span ∙ ap (λ x. span_of (Some x)) (same_Some f.kind r (sym f.kind_is ∙ ap record_of (sym there) ∙ record_is))
 
-    pub walk-within : (2 ≤ span_of r) × (at + span_of r ≤ length l)
+    pub walk-within : (2 ≤ span_of (Some r)) × (at + span_of (Some r) ≤ length l)
     walk-within =
         let f = first (drop at l) there in
         (omega (arith, size-is-span, f.two), omega (arith, size-is-span, f.there, length-drop at l))
 
     -- the call there, and those behind it
-    pub walk-calls : kept_calls (drop at l) ≡ call_of r (drop at l) ∷ kept_calls (drop (at + span_of r) l)
-    walk-calls = calls-more (drop at l) there ∙ ap (λ x. call_of r (drop at l) ∷ kept_calls x) (drop-drop (span_of r) at l)
+    pub walk-calls : kept_calls (drop at l) ≡ call_of (Some r) (drop at l) ∷ kept_calls (drop (at + span_of (Some r)) l)
+    walk-calls = calls-more (drop at l) there ∙ ap (λ x. call_of (Some r) (drop at l) ∷ kept_calls x) (drop-drop (span_of (Some r)) at l)
 
-    pub walk-taken : taken (drop at l) ≡ span_of r + taken (drop (at + span_of r) l)
-    walk-taken = taken_more (drop at l) there ∙ ap₂ ◌+◌ size-is-span (ap taken (drop-drop (span_of r) at l))
+    pub walk-taken : taken (drop at l) ≡ span_of (Some r) + taken (drop (at + span_of (Some r)) l)
+    walk-taken = taken_more (drop at l) there ∙ ap₂ ◌+◌ size-is-span (ap taken (drop-drop (span_of (Some r)) at l))
 
 -- ## The count
 
@@ -178,7 +203,7 @@ module _ {l : List ℕ} {at n : ℕ} (c : Counting l at n) where
       record { calls = omega (arith, c.calls, ap length w.0); taken = omega (arith, c.bytes, w.1) }
 
   -- r: the record there
-  pub counting_more : {r : Record} → record_in (mid_of at (length l - at) l) ≡ Some r → Counting l (at + span_of r) (n + 1)
+  pub counting_more : {r : Record} → record_in (mid_of at (length l - at) l) ≡ Some r → Counting l (at + span_of (Some r)) (n + 1)
   counting_more e =
       let w = walk-within l at c.there e in
       record {

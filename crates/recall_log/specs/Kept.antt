@@ -117,19 +117,21 @@ record_of stops = None
 unfoldable pub record_in : List ℕ → Option Record
 record_in l = record_of (next l)
 
--- its call
-unfoldable pub call_of : Record → List ℕ → Call
-call_of (Open c) l = opens c
-call_of (Close c) l = closes c card_room
-call_of (Message c size) l = messages c (part mark_end (8 + size) l) card_loans
-call_of (Tick seconds micros) l = ticks seconds micros card_room
+-- its call; none is no call
+unfoldable pub call_of : Option Record → List ℕ → Call
+call_of (Some (Open c)) l = opens c
+call_of (Some (Close c)) l = closes c card_room
+call_of (Some (Message c size)) l = messages c (part mark_end (8 + size) l) card_loans
+call_of (Some (Tick seconds micros)) l = ticks seconds micros card_room
+call_of None l = opens 0
 
 -- the bytes that it takes
-unfoldable pub span_of : Record → ℕ
-span_of (Open c) = mark_end
-span_of (Close c) = mark_end
-span_of (Message c size) = message_end size
-span_of (Tick seconds micros) = tick_end
+unfoldable pub span_of : Option Record → ℕ
+span_of (Some (Open c)) = mark_end
+span_of (Some (Close c)) = mark_end
+span_of (Some (Message c size)) = message_end size
+span_of (Some (Tick seconds micros)) = tick_end
+span_of None = 0
 
 -- how many calls are in l, and the bytes that they take
 pub record Counts (l : List ℕ) (h : Held) : Type 0 where

@@ -65,7 +65,7 @@ fn count(l: &[u8]) -> Held
     let mut at = 0;
     let mut n = 0;
     while let Some(r) = record_at(&l[at..]) {
-        at += span_of(r);
+        at += span_of(Some(r));
         n += 1;
     }
     Held {

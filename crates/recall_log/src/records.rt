@@ -62,10 +62,13 @@ pub fn record_at(l: &[u8]) -> Option<Record>
     }
 }
 
-// The bytes that a record takes.
-pub fn span_of(r: Record) -> usize
+// The bytes that a record takes; none takes none.
+pub fn span_of(r: Option<Record>) -> usize
     ensures { result ≡ span_of r }
 {
+    let Some(r) = r else {
+        return 0;
+    };
     match r {
         Record::Open(_) | Record::Close(_) => MARK_END,
         Record::Message(_, size) => HEADER_END + size as usize,

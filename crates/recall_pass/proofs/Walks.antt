@@ -50,8 +50,9 @@ says l = go (next l) refl
     go (calls (messages c k loans) m) e =
         let f = first l e in
         let kind : Message c (message_size k) ≡ f.kind = same_Some _ _ f.kind_is in
-        let span : 10 + message_size k ≡ f.size = ap span_of kind ∙ f.span in
-        let made : messages c (part 2 (8 + message_size k) l) card_loans ≡ messages c k loans = ap (λ x. call_of x l) kind ∙ f.made in
+        let span : 10 + message_size k ≡ f.size = ap (λ y. span_of (Some y)) kind ∙ f.span in
+        let made : messages c (part 2 (8 + message_size k) l) card_loans ≡ messages c k loans =
+        ap (λ x. call_of (Some x) l) kind ∙ f.made in
         let p : part 2 (8 + message_size k) l ≡ k = cc in
         ap (λ (x : List ℕ). message_size x) (sym p)
         ∙ ap value (part-take 2 2 (8 + message_size k) (drop 2 l) (omega arith) (omega (arith, f.there, span, length-drop 2 l)))
@@ -72,26 +73,26 @@ module _ (log : List ℕ) (at : ℕ) {x : Record} (is : record_in (drop at log) 
     pub message-within : at ≤ length log → at + 2 + (8 + message_size (drop (at + 2) log)) ≤ length log
     unfolding span_of
     message-within h =
-        omega (arith, (walk-within log at h (ap record_in (behind at log) ∙ is)).1, ap span_of e, size_is)
+        omega (arith, (walk-within log at h (ap record_in (behind at log) ∙ is)).1, ap (λ y. span_of (Some y)) e, size_is)
 
   module _ (h : Carried) (m : List ℕ) (r : Carried) (k : List ℕ) where
     abbrev Led : Record → Type 0
-    Led y = Leads log h (call (call_of y (drop at log)) (pass_in log h m)) r k
+    Led y = Leads log h (call (call_of (Some y) (drop at log)) (pass_in log h m)) r k
 
     pub led-open : {c : ℕ} → x ≡ Open c → Leads log h (open_call c (pass_in log h m)) r k
-        → Leads log h (call (call_of x (drop at log)) (pass_in log h m)) r k
+        → Leads log h (call (call_of (Some x) (drop at log)) (pass_in log h m)) r k
     unfolding call call_of
     led-open e g = subst Led (sym e) g
 
     -- room: the length of the buffer
     pub led-close : {c room : ℕ} → x ≡ Close c → room ≡ card_room → Leads log h (close_call c room (pass_in log h m)) r k
-        → Leads log h (call (call_of x (drop at log)) (pass_in log h m)) r k
+        → Leads log h (call (call_of (Some x) (drop at log)) (pass_in log h m)) r k
     unfolding call call_of
     led-close {c} e i g = subst Led (sym e) (subst (λ (j : ℕ). Leads log h (close_call c j (pass_in log h m)) r k) i g)
 
     pub led-tick : {seconds micros room : ℕ} → x ≡ Tick seconds micros → room ≡ card_room
         → Leads log h (tick_call seconds micros room (pass_in log h m)) r k
-        → Leads log h (call (call_of x (drop at log)) (pass_in log h m)) r k
+        → Leads log h (call (call_of (Some x) (drop at log)) (pass_in log h m)) r k
     unfolding call call_of
     led-tick {seconds} {micros} e i g = subst Led (sym e)
         (subst (λ (j : ℕ). Leads log h (tick_call seconds micros j (pass_in log h m)) r k) i
@@ -99,7 +100,7 @@ module _ (log : List ℕ) (at : ℕ) {x : Record} (is : record_in (drop at log) 
 
     pub led-message : {c n : ℕ} → x ≡ Message c n
         → Leads log h (call (messages c (part (at + 2) (8 + message_size (drop (at + 2) log)) log) card_loans) (pass_in log h m)) r k
-        → Leads log h (call (call_of x (drop at log)) (pass_in log h m)) r k
+        → Leads log h (call (call_of (Some x) (drop at log)) (pass_in log h m)) r k
     unfolding call_of
     led-message {c} {n} e g =
         subst Led (sym e)
@@ -160,15 +161,15 @@ module _ {log : List ℕ} {h : Carried} {m : List ℕ} {at : ℕ} (w : Walking l
     walking-record = (ap record_in (sym (behind at log)) ∙ e, w.there)
 
     abbrev c : Call
-    c = call_of r (drop at log)
+    c = call_of (Some r) (drop at log)
 
     abbrev behind-it : List Call
-    behind-it = kept_calls (drop (at + span_of r) log)
+    behind-it = kept_calls (drop (at + span_of (Some r)) log)
 
     more : kept_calls log ≡ w.before ++ (c ∷ behind-it)
     more = w.calls ∙ ap (λ (y : List Call). w.before ++ y) (walk-calls log at w.there e)
 
-    module _ {k : ℕ} (f : k ≡ span_of r) where
+    module _ {k : ℕ} (f : k ≡ span_of (Some r)) where
       pub walking-within : (2 ≤ k) × (at + k ≤ length log)
       walking-within = let y = walk-within log at w.there e in (omega (arith, y.0, f), omega (arith, y.1, f))
 

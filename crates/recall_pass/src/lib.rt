@@ -287,7 +287,7 @@ fn play(
     requires fits { Fits (h.rows + 1) m.old }
     requires record_value { (record_in (drop at log.now) ≡ Some «record») × (at ≤ length log.now) }
     requires scratch_len { length scratch.old ≡ card_room }
-    ensures { Leads log.now h (call (call_of «record» (drop at log.now)) (pass_in log.now h m.old)) result
+    ensures { Leads log.now h (call (call_of (Some «record») (drop at log.now)) (pass_in log.now h m.old)) result
         m.new }
 {
     match record {
@@ -311,7 +311,7 @@ pub fn pass(log: &[u8], m: &mut [u64]) -> Carried
     let mut at = 0;
     while let Some(record) = recall_log::record_at(&log[at..]) {
         h = play(log, &mut *m, h, at, record, &mut scratch);
-        at += recall_log::span_of(record);
+        at += recall_log::span_of(Some(record));
     }
     h
 }

@@ -129,14 +129,14 @@ renamed {g = g} {e = e} {r = r} {n = n} {o = o} h m = subst (λ x. Remembers x g
 
 -- y: the record that was read, if any
 module _ {y : Option Record} (l : List ℕ) (f : y ≡ record_in l) where
-  pub record-within : {x : Record} → y ≡ Some x → span_of x ≤ length l
+  pub record-within : {x : Record} → y ≡ Some x → span_of (Some x) ≤ length l
   unfolding record_in record_of
   record-within {x} g = go (next l) refl (sym f ∙ g)
     where
-      go : (z : Next) → next l ≡ z → record_of z ≡ Some x → span_of x ≤ length l
+      go : (z : Next) → next l ≡ z → record_of z ≡ Some x → span_of (Some x) ≤ length l
       go (calls k m) e h =
           let b = first l e in
-          omega (arith, b.span, b.there, ap span_of (same_Some b.kind x (sym b.kind_is ∙ h)))
+          omega (arith, b.span, b.there, ap (λ w. span_of (Some w)) (same_Some b.kind x (sym b.kind_is ∙ h)))
       go (ends k) e h = absurd (none-some x h)
       go stops e h = absurd (none-some x h)
 

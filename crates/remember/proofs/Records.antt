@@ -28,7 +28,7 @@ use Rattle.remember.specs.Remembered.{Filled, Whole, Ended, Reads}
 
 -- ## The bytes p, whatever follows
 
-made-is : (r : Record) (p : List ℕ) → made_of (Some r) p ≡ call_of r p
+made-is : (r : Record) (p : List ℕ) → made_of (Some r) p ≡ call_of (Some r) p
 unfolding made_of
 made-is (Open c) p = refl
 made-is (Close c) p = refl
@@ -40,13 +40,13 @@ size-at p = ap (λ x. value (take 2 x)) (drop-drop 2 2 p)
 
 module _ (p : List ℕ) where
   -- all of them are one call
-  calls-whole : {k : Call} {m : List ℕ} {r : Record} → next p ≡ calls k m → record_of (calls k m) ≡ Some r → span_of r ≡ length p
-      → ends_with p ≡ false → Whole p
+  calls-whole : {k : Call} {m : List ℕ} {r : Record} → next p ≡ calls k m → record_of (calls k m) ≡ Some r
+      → span_of (Some r) ≡ length p → ends_with p ≡ false → Whole p
   unfolding call_for record_in
   calls-whole {k} {m} {r} e i h f more =
       let b = first p e in
       let kind : b.kind ≡ r = same_Some b.kind r (sym b.kind_is ∙ i) in
-      let whole : take b.size p ≡ p = take_all b.size p (omega (arith, b.span, ap span_of kind, h)) in
+      let whole : take b.size p ≡ p = take_all b.size p (omega (arith, b.span, ap (λ x. span_of (Some x)) kind, h)) in
       let same : call_for p ≡ k =
       ap (λ x. made_of (record_of x) p) e ∙ ap (λ x. made_of x p) b.kind_is ∙ made-is b.kind p ∙ b.made in
       ap (λ x. next (x ++ more)) (sym whole) ∙ b.again more ∙ ap (λ x. calls x more) (sym same)

@@ -15,10 +15,10 @@ use Rattle.recall.specs.Recall.{recall_call}
 -- the call of the record that l begins with; "at a message header with MessageSize above 4,088 it makes the call": what begins no record is
 -- handed on as a message
 unfoldable pub made_of : Option Record → List ℕ → Call
-made_of (Some (Open c)) l = call_of (Open c) l
-made_of (Some (Close c)) l = call_of (Close c) l
-made_of (Some (Message c size)) l = call_of (Message c size) l
-made_of (Some (Tick seconds micros)) l = call_of (Tick seconds micros) l
+made_of (Some (Open c)) l = call_of (Some (Open c)) l
+made_of (Some (Close c)) l = call_of (Some (Close c)) l
+made_of (Some (Message c size)) l = call_of (Some (Message c size)) l
+made_of (Some (Tick seconds micros)) l = call_of (Some (Tick seconds micros)) l
 made_of None l = messages (conn_in l) (message_from l) card_loans
 
 unfoldable pub call_for : List ℕ → Call
