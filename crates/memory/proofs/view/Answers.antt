@@ -4,6 +4,5 @@ use Rattle.memory.proofs.view.Goals as goal
 
 pub invariant_of-result : goal.invariant_of-result
 invariant_of-result c =
-    record {
-      good = good-at c.args.which c.from-a.ensures.value c.to-e.ensures.value c.ring_end-ring_end.ensures.value c.requires c.count-n.ensures;
-    }
+    let ring = c.ring_end-ring_end.ensures.value in
+    record { good = good-at c.args.which c.from-a.ensures.value c.to-e.ensures.value ring c.requires c.count-n.ensures; }
