@@ -173,7 +173,8 @@ fn put_session(row: &mut [u64], state: u64, s: Session)
     ]);
 }
 
-// The first n of a list as rows.
+// The first n of a list as rows. In line, as each caller has one list: called, a row takes twice the instructions.
+#[inline(always)]
 fn list_sessions(m: &[u64], which: Which, n: usize, rows: &mut [u64])
     requires { Listable which n m.now rows.old }
     ensures { Lists which n m.now rows.old rows.new }

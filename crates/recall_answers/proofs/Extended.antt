@@ -86,11 +86,11 @@ module _ (c x : ℕ) where
           (ap (is_past c x) (sym q) ∙ p))
 
     -- all sixteen were looked at, or all that ended
-    seek-full : (n k : ℕ) → k ≡ 0 → Seeking c x l n k → unused ≡ latest c x (recent l)
+    pub seek-full : (n k : ℕ) → k ≡ 0 → Seeking c x l n k → unused ≡ latest c x (recent l)
     unfolding lately_from latest place
     seek-full n k e s = sym (s ∙ ap (λ (k : ℕ). latest c x (lately_from k n l)) e)
 
-    seek-out : (n k : ℕ) → n ≡ 0 → Seeking c x l n k → unused ≡ latest c x (recent l)
+    pub seek-out : (n k : ℕ) → n ≡ 0 → Seeking c x l n k → unused ≡ latest c x (recent l)
     seek-out n k e s = sym (s ∙ ap (λ (n : ℕ). latest c x (lately_from k n l)) e ∙ none_left k l)
 
     -- at the end, the ends being `ended`
