@@ -155,22 +155,19 @@ fn state_of(which: Which, at: usize) -> u64
     }
 }
 
-// A session as a row.
-#[tactic(auto, unfolding(rules::specs::Bytes::written, rules::specs::Listing::session_row))]
+// A session as a row. Word by word: made as an array and copied, a row takes 1.7 times the time.
 fn put_session(row: &mut [u64], state: u64, s: Session)
     requires row_width_in_bounds { row_width ≤ length row.old }
     requires proper { Proper s × Small s × (state ≤ 3) }
     ensures { row.new ≡ written row.old 0 (session_row state s) }
 {
-    row[..ROW].copy_from_slice(&[
-        s.start.0,
-        s.end.0,
-        s.played.0,
-        s.conn + HIGH * s.id,
-        s.event + HIGH * s.prior,
-        s.access + HIGH * s.overrides,
-        s.mux + HIGH * state,
-    ]);
+    row[0] = s.start.0;
+    row[1] = s.end.0;
+    row[2] = s.played.0;
+    row[3] = s.conn + HIGH * s.id;
+    row[4] = s.event + HIGH * s.prior;
+    row[5] = s.access + HIGH * s.overrides;
+    row[6] = s.mux + HIGH * state;
 }
 
 // The first n of a list as rows. In line, as each caller has one list: called, a row takes twice the instructions.
