@@ -30,7 +30,7 @@ use Rattle.recall_rules.proofs.Twice.{answers-like-the-rules}
 use Rattle.recall_answers.specs.declared.Carried.{Carried}
 use Rattle.recall_pass.specs.declared.Played.{Played}
 use Rattle.recall_pass.specs.Passes.{pass_in, replied, Plays, Passed}
-use Rattle.recall.specs.Finish.{Begins}
+use Rattle.recall.specs.Finish.{FindsPlace, Begins}
 use Rattle.recall.specs.Recall as recall
 use Rattle.recall.specs.Recall.{recall_call, recall_fresh, Recalled, told_by, Remembers, Forgets}
 use Rattle.recall.proofs.Recalls.{thirteen-leaves, fresh-leaves}
@@ -156,18 +156,44 @@ space-from l {at} = go (full l) refl
     go false f e = (f, subst (Behind l) (same_Some (taken l) at e) (place-behind l f))
 
 -- what is made of it
-pub begins : (l : List ℕ) (o : Option ℕ) → o ≡ space_in l → Begins l (ok_or o Full)
-begins l None e = (space-none l (sym e), refl)
-begins l (Some at) e = space-from l (sym e)
+pub place-none : (o : Option ℕ) {n : Refused} → ok_or o Full ≡ Err n → (o ≡ None) × (n ≡ Full)
+place-none None e = (refl, cc)
+place-none (Some x) e = absurd (err_no_ok (sym e))
 
--- what `begin` gives
-pub begun-full : (k : Call) (l e : List ℕ) {r : Result ℕ Refused} {n : Refused} → Begins l r → r ≡ Err n → Remembers k l e (Err n) l e
-begun-full k l e b i =
-    let a = subst (Begins l) i b in
+pub place-some : (o : Option ℕ) {at : ℕ} → ok_or o Full ≡ Ok at → o ≡ Some at
+place-some None e = absurd (err_no_ok e)
+place-some (Some x) e = cc
+
+pub begins : (l : List ℕ) (o : Option ℕ) → o ≡ space_in l → FindsPlace l (ok_or o Full)
+begins l o e = go (ok_or o Full) refl
+  where
+    go : (r : Result ℕ Refused) → ok_or o Full ≡ r → FindsPlace l r
+    go (Err n) i = let p = place-none o i in (space-none l (sym e ∙ p.0), p.1)
+    go (Ok at) i = space-from l (sym e ∙ place-some o i)
+
+-- 13, or the place and what the pass carries
+pub begun-full : (k : Call) (l e m : List ℕ) {r : Result (ℕ × Carried) Refused} {n : Refused} → Begins l r m → r ≡ Err n
+    → Remembers k l e (Err n) l e
+begun-full k l e m b i =
+    let a = subst (λ x. Begins l x m) i b in
     subst (λ x. Remembers k l e (Err x) l e) (sym a.1) (remembers-full k l e a.0)
 
-pub begun-there : (l : List ℕ) {r : Result ℕ Refused} {at : ℕ} → Begins l r → r ≡ Ok at → (full l ≡ false) × Behind l at
-begun-there l b i = subst (Begins l) i b
+pub begun-there : (l m : List ℕ) {r : Result (ℕ × Carried) Refused} {p : ℕ × Carried} → Begins l r m → r ≡ Ok p
+    → (full l ≡ false) × Behind l p.0 × Passed l p.1 m
+begun-there l m b i = subst (λ x. Begins l x m) i b
+
+-- what `begin` gives
+pub found-full : (k : Call) (l e : List ℕ) {r : Result ℕ Refused} {n : Refused} → FindsPlace l r → r ≡ Err n
+    → Remembers k l e (Err n) l e
+found-full k l e {n = n} b i = begun-full k l e [] {r = Err n} (subst (FindsPlace l) i b) refl
+
+pub found-there : (l : List ℕ) {r : Result ℕ Refused} {at : ℕ} → FindsPlace l r → r ≡ Ok at → (full l ≡ false) × Behind l at
+found-there l b i = subst (FindsPlace l) i b
+
+-- and the pass behind it
+pub begins-with : (l : List ℕ) {r : Result ℕ Refused} {at : ℕ} {h : Carried} {m : List ℕ} → FindsPlace l r → r ≡ Ok at
+    → Passed l h m → Begins l (Ok (at, h)) m
+begins-with l b i p = let f = found-there l b i in (f.0, f.1, p)
 
 -- ## A call that was played behind all kept ones
 

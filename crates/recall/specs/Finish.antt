@@ -10,11 +10,17 @@ use Rattle.recall_log.specs.declared.Refused.TheVariants.{Full}
 use Rattle.recall_log.specs.Log.{full}
 use Rattle.recall_log.specs.Kept.{Behind}
 use Rattle.recall_pass.specs.declared.Heard.{Heard}
+use Rattle.recall_pass.specs.Passes.{Passed}
 
 -- of a log l that is full 13; of any other the place for the next record
-abbrev pub Begins : (l : List ℕ) → Result ℕ Refused → Type 0
-Begins l (Err n) = (full l ≡ true) × (n ≡ Full)
-Begins l (Ok at) = (full l ≡ false) × Behind l at
+abbrev pub FindsPlace : (l : List ℕ) → Result ℕ Refused → Type 0
+FindsPlace l (Err n) = (full l ≡ true) × (n ≡ Full)
+FindsPlace l (Ok at) = (full l ≡ false) × Behind l at
+
+-- of a log l that is full 13; of any other the place for the next record, and what is carried behind its calls, with the words m
+abbrev pub Begins : (l : List ℕ) → Result (ℕ × Carried) Refused → (m : List ℕ) → Type 0
+Begins l (Err n) m = (full l ≡ true) × (n ≡ Full)
+Begins l (Ok p) m = (full l ≡ false) × Behind l p.0 × Passed l p.1 m
 
 -- of any answer a that was heard, but for that record, in a pass s over the log l, with the data d and a buffer that held e: all of its
 -- records stand in the buffer o now, which held i

@@ -9,7 +9,7 @@ ghost use Rattle.rules.specs.Calls.{opens, closes, messages, ticks};
 ghost use Rattle.rules.specs.Card.{card_room};
 ghost use Rattle.recall_answers.specs.Replies.{Placed};
 ghost use Rattle.recall.specs.Recall.{Remembers, Forgets};
-ghost use Rattle.recall.specs.Finish.{Begins, Finishes};
+ghost use Rattle.recall.specs.Finish.{FindsPlace, Finishes};
 
 use recall_answers::{Carried, Effect};
 use recall_log::{Refused, Reply};
@@ -32,7 +32,7 @@ pub fn fresh(log: &mut [u8]) -> Reply
 
 // 13 before all others; else where the next record goes.
 fn begin(log: &[u8]) -> Result<usize, Refused>
-    ensures { Begins log.now result }
+    ensures { FindsPlace log.now result }
 {
     recall_log::next_place(log).ok_or(Refused::Full)
 }

@@ -4,7 +4,7 @@ use Rattle.std.proofs.lemmas.Result.{err_from_is_err_and}
 use Rattle.recall_log.specs.Kept.{kept_form}
 use Rattle.recall_log.proofs.Keeps.{open-low}
 use Rattle.recall_log.proofs.Logs.{not_full}
-use Rattle.recall.proofs.Calls.{begun-full, begun-there, played-not, played-done, played-good, open_is}
+use Rattle.recall.proofs.Calls.{found-full, found-there, begins-with, played-not, played-done, played-good, open_is}
 use Rattle.rules.proofs.All.{all-at}
 use Rattle.rules.specs.Follows.Wires.{Byte}
 use Rattle.rules.specs.Calls.{opens}
@@ -15,12 +15,12 @@ use Rattle.recall.proofs.open.Goals as goal
 pub returns-in_err-at : goal.returns-in_err-at
 returns-in_err-at c =
     let p = err_from_is_err_and c.from_residual.result c.from_residual.ensures.1 in
-    rw (p.1, p.2) (begun-full (opens c.args.conn) c.args.log.now [] c.begin.ensures c.in_err-at.was)
+    rw (p.1, p.2) (found-full (opens c.args.conn) c.args.log.now [] c.begin.ensures c.in_err-at.was)
 
 pub pass-h-requires : goal.pass-h-requires
 pass-h-requires c =
     record {
-      log_len_bound = (not_full c.args.log.now (begun-there c.args.log.now c.begin.ensures c.in_ok-at.was).0).few;
+      log_len_bound = (not_full c.args.log.now (found-there c.args.log.now c.begin.ensures c.in_ok-at.was).0).few;
       width_in_bounds = omega arith;
     }
 
@@ -28,27 +28,27 @@ pub returns-in_err-p : goal.returns-in_err-p
 returns-in_err-p c =
     let p = err_from_is_err_and c.from_residual-in_err-p.result c.from_residual-in_err-p.ensures.1 in
     let l = c.args.log.now in
-    let b = begun-there l c.begin.ensures c.in_ok-at.was in
-    rw (p.1, p.2) (played-not (opens c.args.conn) l (all-at Byte 0 l (λ i. search rules)) b.0 c.pass-h.ensures (open_is c.args.conn)
-    (c.open.ensures _ [] (omega (arith, c.pass-h.ensures.fits)) l) c.in_err-p.was)
+    let b = begins-with l c.begin.ensures c.in_ok-at.was c.pass-h.ensures in
+    rw (p.1, p.2) (played-not (opens c.args.conn) l (all-at Byte 0 l (λ i. search rules)) b.0 b.2 (open_is c.args.conn)
+    (c.open.ensures _ [] (omega (arith, b.2.fits)) l) c.in_err-p.was)
 
 pub overflow_cast-conn : goal.overflow_cast-conn
 overflow_cast-conn c =
     let l = c.args.log.now in
-    let b = begun-there l c.begin.ensures c.in_ok-at.was in
+    let b = begins-with l c.begin.ensures c.in_ok-at.was c.pass-h.ensures in
     omega (
       arith,
-      open-low c.args.conn _ (played-good (opens c.args.conn) l (all-at Byte 0 l (λ i. search rules)) b.0 c.pass-h.ensures
-          (open_is c.args.conn) (c.open.ensures _ [] (omega (arith, c.pass-h.ensures.fits)) l) c.in_ok-p.was),
+      open-low c.args.conn _ (played-good (opens c.args.conn) l (all-at Byte 0 l (λ i. search rules)) b.0 b.2
+          (open_is c.args.conn) (c.open.ensures _ [] (omega (arith, b.2.fits)) l) c.in_ok-p.was),
     )
 
 pub keep_open-requires : goal.keep_open-requires
-keep_open-requires c = (begun-there c.args.log.now c.begin.ensures c.in_ok-at.was).1
+keep_open-requires c = (found-there c.args.log.now c.begin.ensures c.in_ok-at.was).1
 
 pub returns : goal.returns
 unfolding kept_form
 returns c =
     let l = c.args.log.now in
-    let b = begun-there l c.begin.ensures c.in_ok-at.was in
-    played-done (opens c.args.conn) l (all-at Byte 0 l (λ i. search rules)) b.0 c.pass-h.ensures (open_is c.args.conn)
-    (c.open.ensures _ [] (omega (arith, c.pass-h.ensures.fits)) l) c.in_ok-p.was c.keep_open.ensures
+    let b = begins-with l c.begin.ensures c.in_ok-at.was c.pass-h.ensures in
+    played-done (opens c.args.conn) l (all-at Byte 0 l (λ i. search rules)) b.0 b.2 (open_is c.args.conn)
+    (c.open.ensures _ [] (omega (arith, b.2.fits)) l) c.in_ok-p.was c.keep_open.ensures

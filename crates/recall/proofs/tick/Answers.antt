@@ -4,7 +4,7 @@ use Rattle.std.proofs.lemmas.Result.{err_from_is_err_and}
 use Rattle.recall_log.specs.Kept.{kept_form}
 use Rattle.recall_pass.proofs.Laws.{passed-ready}
 use Rattle.recall_log.proofs.Logs.{not_full}
-use Rattle.recall.proofs.Calls.{begun-full, begun-there, played-not, played-done, tick_is}
+use Rattle.recall.proofs.Calls.{found-full, found-there, begins-with, played-not, played-done, tick_is}
 use Rattle.rules.proofs.All.{all-at}
 use Rattle.rules.specs.Follows.Wires.{Byte}
 use Rattle.rules.specs.Calls.{ticks}
@@ -15,13 +15,13 @@ use Rattle.recall.proofs.tick.Goals as goal
 pub returns-in_err-at : goal.returns-in_err-at
 returns-in_err-at c =
     let p = err_from_is_err_and c.from_residual.result c.from_residual.ensures.1 in
-    rw (p.1, p.2) (begun-full (ticks c.args.seconds c.args.micros (length c.args.out.now)) c.args.log.now c.args.out.now c.begin.ensures
+    rw (p.1, p.2) (found-full (ticks c.args.seconds c.args.micros (length c.args.out.now)) c.args.log.now c.args.out.now c.begin.ensures
     c.in_err-at.was)
 
 pub pass-h-requires : goal.pass-h-requires
 pass-h-requires c =
     record {
-      log_len_bound = (not_full c.args.log.now (begun-there c.args.log.now c.begin.ensures c.in_ok-at.was).0).few;
+      log_len_bound = (not_full c.args.log.now (found-there c.args.log.now c.begin.ensures c.in_ok-at.was).0).few;
       width_in_bounds = omega arith;
     }
 
@@ -32,17 +32,17 @@ pub returns-in_err-p : goal.returns-in_err-p
 returns-in_err-p c =
     let p = err_from_is_err_and c.from_residual-in_err-p.result c.from_residual-in_err-p.ensures.1 in
     let l = c.args.log.now in
-    let b = begun-there l c.begin.ensures c.in_ok-at.was in
+    let b = begins-with l c.begin.ensures c.in_ok-at.was c.pass-h.ensures in
     rw (p.1, p.2) (played-not (ticks c.args.seconds c.args.micros (length c.args.out.now)) l (all-at Byte 0 l (λ i. search rules)) b.0
-    c.pass-h.ensures (tick_is c.args.seconds c.args.micros (length c.args.out.now)) (c.tick.ensures l) c.in_err-p.was)
+    b.2 (tick_is c.args.seconds c.args.micros (length c.args.out.now)) (c.tick.ensures l) c.in_err-p.was)
 
 pub keep_tick-requires : goal.keep_tick-requires
-keep_tick-requires c = (begun-there c.args.log.now c.begin.ensures c.in_ok-at.was).1
+keep_tick-requires c = (found-there c.args.log.now c.begin.ensures c.in_ok-at.was).1
 
 pub returns : goal.returns
 unfolding kept_form
 returns c =
     let l = c.args.log.now in
-    let b = begun-there l c.begin.ensures c.in_ok-at.was in
-    played-done (ticks c.args.seconds c.args.micros (length c.args.out.now)) l (all-at Byte 0 l (λ i. search rules)) b.0 c.pass-h.ensures
+    let b = begins-with l c.begin.ensures c.in_ok-at.was c.pass-h.ensures in
+    played-done (ticks c.args.seconds c.args.micros (length c.args.out.now)) l (all-at Byte 0 l (λ i. search rules)) b.0 b.2
     (tick_is c.args.seconds c.args.micros (length c.args.out.now)) (c.tick.ensures l) c.in_ok-p.was c.keep_tick.ensures
